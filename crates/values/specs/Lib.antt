@@ -1,0 +1,12 @@
+pub mod Basic
+pub mod Bytes
+pub mod Value
+pub mod Meaning
+pub mod Cell
+pub mod Read
+pub mod Print
+pub mod Area
+pub mod Records
+pub mod Counted
+pub mod Sorted
+pub mod Search

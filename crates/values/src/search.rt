@@ -1,0 +1,163 @@
+// How many records of a sorted area are before a probe, by halving: one function for each order, one law for all.
+use super::bytes;
+use super::cell;
+use super::value;
+use super::value::Order;
+use super::value::Text;
+use super::value::Value;
+ghost use mathlib.Core.Path.{_≡_};
+ghost use Prim.Native.Nat.{_+_, _≤_};
+ghost use lib.ListN.{length};
+ghost use Rattle.values.specs.Basic.{isLt};
+ghost use Rattle.values.specs.Meaning.{textBytes, Packed, meaning, Proper, ordering};
+ghost use Rattle.values.specs.Cell.{nameWidth, cellWidth};
+ghost use Rattle.values.specs.Records.{records};
+ghost use Rattle.values.specs.Sorted.{countOf};
+ghost use Rattle.values.specs.Search.{cmpNamed, cmpKeyed, cmpContent, cmpEntered, SearchIn};
+
+// A record that starts with a name.
+pub fn compare_named(rec: &[u8], name: Text) -> Order
+    requires { ⌜ (nameWidth ≤ length (now rec)) × Packed name ⌝ }
+    ensures { λ r. ⌜ ordering r ≡ cmpNamed (now (rec .entry)) (textBytes name) ⌝ }
+{
+    value::compare_texts(cell::read_name(rec), name)
+}
+
+// A record that starts with a name and has a value cell at `at`.
+pub fn compare_keyed(rec: &[u8], name: Text, at: usize, key: Value) -> Order
+    requires { ⌜ (nameWidth ≤ length (now rec)) × (at + cellWidth ≤ length (now rec)) × Packed name × Proper key ⌝ }
+    ensures { λ r. ⌜ ordering r ≡ cmpKeyed at (now (rec .entry)) (textBytes name) (meaning key) ⌝ }
+{
+    match compare_named(rec, name) {
+        Order::Less => Order::Less,
+        Order::More => Order::More,
+        Order::Same => {
+            let c = cell::read_cell(&rec[at..]);
+            let v = c.value;
+            value::compare(v, key)
+        }
+    }
+}
+
+// What follows the name of an index entry: a number and two value cells.
+fn compare_content(rec: &[u8], column: u8, v: Value, key: Value) -> Order
+    requires { ⌜ (nameWidth + 1 + cellWidth + cellWidth ≤ length (now rec)) × Proper v × Proper key ⌝ }
+    ensures { λ r. ⌜ ordering r ≡ cmpContent cellWidth (now (rec .entry)) column (meaning v) (meaning key) ⌝ }
+{
+    match value::compare_words(bytes::wide(rec[25]), bytes::wide(column)) {
+        Order::Less => Order::Less,
+        Order::More => Order::More,
+        Order::Same => {
+            let c = cell::read_cell(&rec[26..]);
+            let stored = c.value;
+            match value::compare(stored, v) {
+                Order::Less => Order::Less,
+                Order::More => Order::More,
+                Order::Same => {
+                    let d = cell::read_cell(&rec[52..]);
+                    let k = d.value;
+                    value::compare(k, key)
+                }
+            }
+        }
+    }
+}
+
+// A record of a name, a number and two value cells.
+pub fn compare_entered(rec: &[u8], name: Text, column: u8, v: Value, key: Value) -> Order
+    requires { ⌜ (nameWidth + 1 + cellWidth + cellWidth ≤ length (now rec)) × Packed name × Proper v × Proper key ⌝ }
+    ensures { λ r. ⌜ ordering r ≡ cmpEntered cellWidth (now (rec .entry)) (textBytes name) column (meaning v) (meaning key) ⌝ }
+{
+    match compare_named(rec, name) {
+        Order::Less => Order::Less,
+        Order::More => Order::More,
+        Order::Same => compare_content(rec, column, v, key),
+    }
+}
+
+// How many of the `count` records have a name before `name`.
+pub fn named_before(area: &[u8], count: usize, width: usize, name: Text) -> usize
+    requires { ⌜ (nameWidth ≤ width) × Packed name ⌝ }
+    requires { ⌜ SearchIn (λ r. isLt (cmpNamed r (textBytes name))) (now area) count width ⌝ }
+    ensures { λ r. ⌜ r ≡ countOf (λ x. isLt (cmpNamed x (textBytes name))) (records width count (now (area .entry))) ⌝ }
+{
+    let mut lo = 0;
+    let mut hi = count;
+    while lo < hi {
+        let mid = lo + (hi - lo) / 2;
+        let p = mid * width;
+        let q = p + width;
+        match compare_named(&area[p..q], name) {
+            Order::Less => {
+                lo = mid + 1;
+            }
+            _ => {
+                hi = mid;
+            }
+        }
+    }
+    lo
+}
+
+// How many of the `count` records have a name and, at `at`, a value before `name` and `key`.
+pub fn keyed_before(
+    area: &[u8],
+    count: usize,
+    width: usize,
+    name: Text,
+    at: usize,
+    key: Value,
+) -> usize
+    requires { ⌜ (nameWidth ≤ width) × (at + cellWidth ≤ width) × Packed name × Proper key ⌝ }
+    requires { ⌜ SearchIn (λ r. isLt (cmpKeyed at r (textBytes name) (meaning key))) (now area) count width ⌝ }
+    ensures { λ r. ⌜ r ≡ countOf (λ x. isLt (cmpKeyed at x (textBytes name) (meaning key))) (records width count (now (area .entry))) ⌝ }
+{
+    let mut lo = 0;
+    let mut hi = count;
+    while lo < hi {
+        let mid = lo + (hi - lo) / 2;
+        let p = mid * width;
+        let q = p + width;
+        match compare_keyed(&area[p..q], name, at, key) {
+            Order::Less => {
+                lo = mid + 1;
+            }
+            _ => {
+                hi = mid;
+            }
+        }
+    }
+    lo
+}
+
+// How many of the `count` index entries are before `name`, `column`, `v` and `key`.
+pub fn entered_before(
+    area: &[u8],
+    count: usize,
+    width: usize,
+    name: Text,
+    column: u8,
+    v: Value,
+    key: Value,
+) -> usize
+    requires { ⌜ (nameWidth + 1 + cellWidth + cellWidth ≤ width) × Packed name × Proper v × Proper key ⌝ }
+    requires { ⌜ SearchIn (λ r. isLt (cmpEntered cellWidth r (textBytes name) column (meaning v) (meaning key))) (now area) count width ⌝ }
+    ensures { λ r. ⌜ r ≡ countOf (λ x. isLt (cmpEntered cellWidth x (textBytes name) column (meaning v) (meaning key))) (records width count (now (area .entry))) ⌝ }
+{
+    let mut lo = 0;
+    let mut hi = count;
+    while lo < hi {
+        let mid = lo + (hi - lo) / 2;
+        let p = mid * width;
+        let q = p + width;
+        match compare_entered(&area[p..q], name, column, v, key) {
+            Order::Less => {
+                lo = mid + 1;
+            }
+            _ => {
+                hi = mid;
+            }
+        }
+    }
+    lo
+}

@@ -1,0 +1,64 @@
+"""Fixed lists replayed by the model."""
+
+import os
+import struct
+
+from layout import NotSound, image, lent_state
+from packed import read_list, read_number, text
+from runs import run
+from values import State
+
+
+def check(list_file):
+    """Says how many cases passed; whether all did."""
+    cases = lent_cases if os.path.basename(list_file) == "lent.list" else stream_cases
+    results = list(cases(list_file))
+    for case, good in enumerate(results):
+        if not good:
+            print("%s: case %d differs" % (list_file, case))
+    print("%s: %d passed, %d failed" % (list_file, results.count(True), results.count(False)))
+    return all(results)
+
+
+def stream_cases(list_file):
+    """Lines, final bytes, and what refusals carry where the text says so."""
+    carried = carried_of(list_file)
+    with open(list_file, "rb") as f:
+        for case, (places, source, lines, store) in enumerate(read_list(f)):
+            state = State(places)
+            got, notes = run(state, source)
+            wanted = {r: what for (c, r), what in carried.items() if c == case}
+            same = all(notes[r].split(" ", 1)[1] == what for r, what in wanted.items())
+            yield text(got) == lines and image(state) == store and same
+
+
+def carried_of(list_file):
+    """From the text beside a list: {(case, request): what the refusal carries}."""
+    found = {}
+    with open(list_file[: -len(".list")] + ".txt") as f:
+        for line in f:
+            words, *carries = line.rstrip("\n").split(" | ")
+            for carry in carries:
+                request, what = carry.split(": ")
+                found[int(words.split()[0]), int(request)] = what
+    return found
+
+
+def lent_cases(list_file):
+    """Whether each changed store is sound or not, as the list says."""
+    with open(list_file, "rb") as f:
+        base = f.read(read_number(f))
+        while head := f.read(4):
+            store = bytearray(base)
+            for _ in range(struct.unpack(">I", head)[0]):
+                at, byte = struct.unpack(">IB", f.read(5))
+                store[at] = byte
+            yield sound(store) == f.read(1)[0]
+
+
+def sound(store):
+    try:
+        lent_state(store)
+    except NotSound:
+        return 0
+    return 1

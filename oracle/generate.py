@@ -1,0 +1,74 @@
+#!/usr/bin/env python3
+"""Streams of requests, seeded.
+
+  generate.py inside SEED COUNT > STREAMS    at least COUNT requests inside the domain
+  generate.py broken SEED COUNT > STREAMS    outside the domain, and broken records
+  generate.py --tally STREAMS                how often each operation, code, AT and GONE comes
+"""
+
+import random
+import struct
+import sys
+
+from inside import Inside
+from packed import packed, read_streams, text
+from runs import run
+from tally import Tally
+from values import State
+from wild import Wild
+
+PLACES = [4, 6, 8, 8, 10, 12, 12, 16, 24, 40, 70]
+NARROW = [1, 2, 3, 4, 5, 6, 8, 12, 20, 70]
+
+
+def inside(seed, count):
+    """Pairs of R and records."""
+    seen, made, number = {}, 0, 0
+    while made < count:
+        rng = random.Random("inside %d %d" % (seed, number))
+        stream = Inside(rng, rng.choice(PLACES), seen)
+        wanted = [stream.request() for _ in range(rng.randrange(20, 90))]
+        found = [data for data in wanted if data is not None]
+        made, number = made + len(found), number + 1
+        yield stream.state.places, b"".join(found)
+
+
+def broken(seed, count):
+    """Pairs of R and records, some of them broken."""
+    seen, made, number = {}, 0, 0
+    while made < count:
+        rng = random.Random("broken %d %d" % (seed, number))
+        stream = Wild(rng, rng.choice(NARROW), seen)
+        found = []
+        for _ in range(rng.randrange(20, 90)):
+            data = stream.bad_length() if rng.random() < 0.02 else stream.request()
+            if data is not None:
+                found.append(data)
+        made, number = made + len(found), number + 1
+        yield stream.state.places, b"".join(found) + stream.ending()
+
+
+def print_tally(streams):
+    tally = Tally()
+    for places, source in streams:
+        tally.add(source, text(run(State(places), source)[0]))
+    print("\n".join(tally.lines()))
+
+
+def main(words):
+    if len(words) == 2 and words[0] == "--tally":
+        with open(words[1], "rb") as f:
+            print_tally(read_streams(f))
+    elif len(words) == 3 and words[0] in MAKERS:
+        for places, source in MAKERS[words[0]](int(words[1]), int(words[2])):
+            sys.stdout.buffer.write(struct.pack(">I", places) + packed(source))
+    else:
+        print(__doc__, file=sys.stderr)
+        return 2
+    return 0
+
+
+MAKERS = {"inside": inside, "broken": broken}
+
+if __name__ == "__main__":
+    sys.exit(main(sys.argv[1:]))

@@ -1,0 +1,156 @@
+#!/usr/bin/env python3
+"""Makes the fixed lists.
+
+  record.py rust ORACLE     lists/rust.list: the Rust's answers inside the domain
+  record.py paper           lists/paper.list: document 01's answers to what the Rust can't say
+
+rust.list has the cases of by_hand_inside.py and by_hand_places.py, and generated streams, chosen
+so that every operation, code, AT and GONE comes several times. Answers and bytes are the oracle's; a case
+where hand, model and oracle don't agree is not recorded, but reported.
+"""
+
+import os
+import struct
+import subprocess
+import sys
+import tempfile
+from collections import Counter
+
+import by_hand_inside
+import by_hand_paper
+import by_hand_places
+from generate import inside
+from layout import image
+from packed import packed, read_answers, text
+from records import records
+from runs import run
+from tally import by_request, operation
+from values import State
+
+LISTS = os.path.join(os.path.dirname(os.path.abspath(__file__)), "lists")
+SEED, REQUESTS = 20011, 60000  # where the generated streams come from
+CASES, WIDE, WANTED = 60, 2, 6  # cases in all, of them generated with R = 70, how often each answer should come
+
+
+def rust_answers(oracle, streams):
+    """The oracle's lines, notes and bytes for pairs of R and records."""
+    with tempfile.TemporaryDirectory() as work:
+        with open(os.path.join(work, "streams"), "wb") as f:
+            f.write(b"".join(struct.pack(">I", places) + packed(source) for places, source in streams))
+        subprocess.run([oracle, f.name, os.path.join(work, "answers")], check=True)
+        with open(os.path.join(work, "answers"), "rb") as f:
+            return list(read_answers(f))
+
+
+def model_answers(places, source):
+    state = State(places)
+    lines, notes = run(state, source)
+    return text(lines), text(notes), image(state)
+
+
+def met(source, lines):
+    """What a stream meets: operation with `ok`, or with code, AT and GONE."""
+    found = Counter()
+    for record, answer in zip(records(source), by_request(lines)):
+        words = answer[-1].split()
+        found[(operation(record), *(words if words[0] == "no" else ["ok"]))] += 1
+    return found
+
+
+def chosen(streams, answers, have, count):
+    """The streams that add most to what is met too rarely, for their size."""
+    left = {i: met(source, a[0]) for i, ((_, source), a) in enumerate(zip(streams, answers))}
+
+    def gain(i):
+        new = sum(min(n, max(0, WANTED - have[what])) for what, n in left[i].items())
+        return new / (len(streams[i][1]) + len(answers[i][0]) + len(answers[i][2]))
+
+    for _ in range(count):
+        best = max(left, key=gain)
+        have.update(left.pop(best))
+        yield best
+
+
+def words_of(places, source, lines):
+    """A few words for a generated case: its size and the refusals met."""
+    found = Counter()
+    for answer in by_request(lines):
+        words = answer[-1].split()
+        if words[0] == "no":
+            found[words[1] + (" GONE 1" if words[3] == "1" else "")] += 1
+    codes = ", ".join(sorted(found, key=lambda w: int(w.split()[0])))
+    return "generated, %d requests, codes %s" % (len(list(records(source))), codes or "none")
+
+
+def carried(notes):
+    """Requests whose refusal carries something: {number: what}."""
+    whats = [line.split(" ", 1)[1] for line in notes.decode().splitlines()]
+    return {i: what for i, what in enumerate(whats) if what != "-"}
+
+
+def write(name, cases):
+    """Cases are (words, R, records, lines, notes, bytes)."""
+    with open(os.path.join(LISTS, name + ".list"), "wb") as f, open(os.path.join(LISTS, name + ".txt"), "w") as t:
+        for number, (words, places, source, lines, notes, store) in enumerate(cases):
+            f.write(struct.pack(">I", places) + packed(source) + packed(lines) + packed(store))
+            carries = "".join(" | %d: %s" % item for item in carried(notes).items())
+            t.write("%d (R = %d) %s%s\n" % (number, places, words, carries))
+        print("%s.list: %d cases, %d bytes" % (name, len(cases), f.tell()))
+
+
+def agree(words, hand, one, other):
+    """Hand-written lines and carried notes, and two answers."""
+    if one != other:
+        raise SystemExit("the model and the oracle differ: " + words)
+    if hand and (hand.lines != one[0] or any(carried(one[1]).get(i) != what for i, what in hand.carries.items())):
+        raise SystemExit("written otherwise by hand: " + words)
+
+
+def record_rust(oracle):
+    hand = by_hand_inside.CASES + by_hand_places.CASES
+    streams = [(c.places, c.source) for c in hand] + list(inside(SEED, REQUESTS))
+    answers = rust_answers(oracle, streams)
+    have = Counter()
+    for (_, source), answer in zip(streams[: len(hand)], answers):
+        have.update(met(source, answer[0]))
+    narrow = [i for i, (places, _) in enumerate(streams) if i >= len(hand) and places <= 12]
+    wide = [i for i, (places, _) in enumerate(streams) if i >= len(hand) and places == 70]
+    picked = list(range(len(hand)))
+    for pool, count in ((wide, WIDE), (narrow, CASES - WIDE - len(hand))):
+        best = chosen([streams[i] for i in pool], [answers[i] for i in pool], have, count)
+        picked += [pool[i] for i in best]
+    cases = []
+    for i in picked:
+        places, source = streams[i]
+        by_hand = hand[i] if i < len(hand) else None
+        words = by_hand.words if by_hand else words_of(places, source, answers[i][0])
+        agree(words, by_hand, answers[i], model_answers(places, source))
+        cases.append((words, places, source, *answers[i]))
+    write("rust", cases)
+    for what, times in sorted(have.items()):
+        print("  %4d %s" % (times, " ".join(what)))
+
+
+def record_paper():
+    cases = []
+    for c in by_hand_paper.CASES:
+        answer = model_answers(c.places, c.source)
+        agree(c.words, c, answer, answer)
+        cases.append((c.words, c.places, c.source, *answer))
+    write("paper", cases)
+
+
+def main(words):
+    os.makedirs(LISTS, exist_ok=True)
+    if words == ["paper"]:
+        record_paper()
+    elif len(words) == 2 and words[0] == "rust":
+        record_rust(words[1])
+    else:
+        print(__doc__, file=sys.stderr)
+        return 2
+    return 0
+
+
+if __name__ == "__main__":
+    sys.exit(main(sys.argv[1:]))
