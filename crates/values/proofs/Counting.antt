@@ -12,15 +12,15 @@ use borrow.Rule.Slice.PartMut.{putMid}
 use Rattle.values.specs.Bytes.{be, num}
 use Rattle.values.specs.Area.{withPart, insertedAt, removedAt, recordAt, withRecord}
 use Rattle.values.specs.Records.{Wide, area, filled, records}
-use Rattle.values.specs.Sorted.{Falls, insertAt, removeAt, replaceAt}
+use Rattle.values.specs.Sorted.{Falls, insertAt, removeRun, replaceAt}
 use Rattle.values.specs.Search.{SearchIn}
 use Rattle.values.specs.Counted.{framed, countAt, grown, shrunk, Grows, Shrinks, Fresh, Frame}
-use Rattle.values.proofs.Changes.{length-insert-at, length-remove-at, length-replace-at, replace-insert}
+use Rattle.values.proofs.Changes.{length-insert-at, length-remove-run, length-replace-at, replace-insert}
 use Rattle.values.proofs.Nest.{mid-back, with-of, with-inside}
 use Rattle.values.proofs.Shifts.{drop-past}
 use Rattle.values.proofs.Numbers.{num-be}
 use Rattle.values.proofs.Parts.{be-length}
-use Rattle.values.proofs.Records.{length-area, place-fits, record-at, records-joined, replace-area, wide-insert, wide-remove, wide-replace}
+use Rattle.values.proofs.Records.{length-area, place-fits, record-at, records-joined, replace-area, wide-insert, wide-remove-run, wide-replace}
 use Rattle.values.proofs.Places.{insert-place, remove-place}
 
 pub be-long : (k w : ℕ) → length (be k w []) ≡ k
@@ -46,14 +46,14 @@ module _ (from places w : ℕ) (rs : List (List ℕ)) (a z : List ℕ) (wide : W
       insert-place from places w rs a z wide ea i r (h .width) (h .at-le) (h .room)
       ∙ ap (λ (n : ℕ). a ++ (area w (insertAt i r rs) n ++ z)) e
 
-  remove-filled : (i : ℕ) → i < length rs → length rs ≤ places
-      → removedAt from places w (length rs) i (a ++ (filled w places rs ++ z)) ≡ a ++ (filled w places (removeAt i rs) ++ z)
+  remove-filled : (i n : ℕ) → i + n ≤ length rs → length rs ≤ places
+      → removedAt from places w (length rs) i n (a ++ (filled w places rs ++ z)) ≡ a ++ (filled w places (removeRun i n rs) ++ z)
   unfolding filled
-  remove-filled i h k =
-      let l = length-remove-at i rs h in
-      let e : suc (places - length rs) ≡ places - length (removeAt i rs) = omega arith in
-      remove-place from places w rs a z wide ea i h k
-      ∙ ap (λ (n : ℕ). a ++ (area w (removeAt i rs) n ++ z)) e
+  remove-filled i n h k =
+      let l = length-remove-run i n rs h in
+      let e : n + (places - length rs) ≡ places - length (removeRun i n rs) = omega arith in
+      remove-place from places w rs a z wide ea i n h k
+      ∙ ap (λ (m : ℕ). a ++ (area w (removeRun i n rs) m ++ z)) e
 
   -- another record over the one at place i, its place as a part
   pub write-filled : (i : ℕ) (r : List ℕ) → i < length rs → length rs ≤ places
@@ -128,12 +128,12 @@ module _ (pre : List ℕ) (cat k : ℕ) (mid : List ℕ) (from w places : ℕ) (
       ∙ ap (withPart cat (cat + k) (be k (length rs + 1) [])) (insert-filled from places w rs (pre ++ (be k (length rs) [] ++ mid)) post wide front i r h)
       ∙ recounted (length rs + 1) (insertAt i r rs) (sym (length-insert-at i r rs (h .at-le))))
 
-  pub shrunk-framed : (i : ℕ) → i < length rs → shrunk cat k from places w i (framed pre k mid w places rs post) ≡ framed pre k mid w places (removeAt i rs) post
+  pub shrunk-framed : (i n : ℕ) → i + n ≤ length rs → shrunk cat k from places w i n (framed pre k mid w places rs post) ≡ framed pre k mid w places (removeRun i n rs) post
   unfolding shrunk
-  shrunk-framed i h =
-      rw framed-count (ap (λ (l : List ℕ). withPart cat (cat + k) (be k (length rs - 1) []) (removedAt from places w (length rs) i l)) regroup
-      ∙ ap (withPart cat (cat + k) (be k (length rs - 1) [])) (remove-filled from places w rs (pre ++ (be k (length rs) [] ++ mid)) post wide front i h few)
-      ∙ recounted (length rs - 1) (removeAt i rs) (sym (length-remove-at i rs h)))
+  shrunk-framed i n h =
+      rw framed-count (ap (λ (l : List ℕ). withPart cat (cat + k) (be k (length rs - n) []) (removedAt from places w (length rs) i n l)) regroup
+      ∙ ap (withPart cat (cat + k) (be k (length rs - n) [])) (remove-filled from places w rs (pre ++ (be k (length rs) [] ++ mid)) post wide front i n h few)
+      ∙ recounted (length rs - n) (removeRun i n rs) (sym (length-remove-run i n rs h)))
 
   -- the area as a part, in which a search runs over the records
   pub area-framed : take (from + places * w - from) (drop from (framed pre k mid w places rs post)) ≡ filled w places rs
@@ -166,18 +166,18 @@ module _ (pre : List ℕ) (cat k : ℕ) (mid : List ℕ) (from w places : ℕ) (
   pub record-framed : (i : ℕ) → i < length rs → recordAt from w i (framed pre k mid w places rs post) ≡ getD rs i []
   record-framed i h = ap (recordAt from w i) regroup ∙ read-filled from places w rs (pre ++ (be k (length rs) [] ++ mid)) post wide front i h
 
-  -- so a record can go in or out
+  -- so a record can go in, and a run of records out
   pub grows : (i : ℕ) → k ≤ 8 → i ≤ length rs → length rs < places → Grows (framed pre k mid w places rs post) cat k from places i w
   grows i s a b =
       let l = framed-length in
       let c = framed-count in
       record { small = s; before = omega (arith, lm); spare = record { inside = omega arith; room = omega arith; at-le = omega arith } }
 
-  pub shrinks : (i : ℕ) → k ≤ 8 → i < length rs → Shrinks (framed pre k mid w places rs post) cat k from places w i
-  shrinks i s h =
+  pub shrinks : (i n : ℕ) → k ≤ 8 → i + n ≤ length rs → Shrinks (framed pre k mid w places rs post) cat k from places w i n
+  shrinks i n s h =
       let l = framed-length in
       let c = framed-count in
-      record { small = s; before = omega (arith, lm); taken = record { inside = omega arith; count-le = omega (arith, few); at-lt = omega arith } }
+      record { small = s; before = omega (arith, lm); taken = record { inside = omega arith; count-le = omega (arith, few); run-le = omega arith } }
 
 -- the frame of a list that was changed
 module _ (pre : List ℕ) (cat k : ℕ) (mid : List ℕ) (from w places : ℕ) (rs : List (List ℕ)) (fr : Frame pre cat k mid from w places rs) where
@@ -187,8 +187,8 @@ module _ (pre : List ℕ) (cat k : ℕ) (mid : List ℕ) (from w places : ℕ) (
   pub frame-insert : (i : ℕ) (r : List ℕ) → Fresh w places i r rs → Frame pre cat k mid from w places (insertAt i r rs)
   frame-insert i r h = frame-of (insertAt i r rs) (wide-insert w i r rs (fr .wide) (h .width)) (omega (arith, length-insert-at i r rs (h .at-le), h .room))
 
-  pub frame-remove : (i : ℕ) → i < length rs → Frame pre cat k mid from w places (removeAt i rs)
-  frame-remove i h = frame-of (removeAt i rs) (wide-remove w i rs (fr .wide)) (omega (arith, length-remove-at i rs h, fr .few))
+  pub frame-remove : (i n : ℕ) → i + n ≤ length rs → Frame pre cat k mid from w places (removeRun i n rs)
+  frame-remove i n h = frame-of (removeRun i n rs) (wide-remove-run w i n rs (fr .wide)) (omega (arith, length-remove-run i n rs h, fr .few))
 
   pub frame-replace : (i : ℕ) (r : List ℕ) → length r ≡ w → i < length rs → Frame pre cat k mid from w places (replaceAt i r rs)
   frame-replace i r e h = frame-of (replaceAt i r rs) (wide-replace w i r rs (fr .wide) e) (omega (arith, length-replace-at i r rs h, fr .few))
@@ -212,7 +212,7 @@ pub read-count : (s : List ℕ) (cat k n : ℕ) → n ≡ num 0 (take (cat + k -
 unfolding countAt
 read-count s cat k n e = sym (e ∙ rw add-sub-cancel-left)
 
--- as the code has it: the count was read as n, the record moved in or out, and the new count written
+-- as the code has it: the count was read as n, records moved in or out, and the new count written
 module _ (s₁ y : List ℕ) (cat k m : ℕ) (long : cat + k ≤ length s₁)
     (put : y ≡ be (length (take (cat + k - cat) (drop cat s₁))) m []) where
   pub count-put : putMid cat (cat + k - cat) s₁ y ≡ withPart cat (cat + k) (be k m []) s₁
@@ -228,10 +228,10 @@ grown-back s s₁ y r cat k from places at n e l f g =
     let c = read-count s cat k n e in
     count-put s₁ y cat k (n + 1) l f ∙ rw (g, c)
 
-pub shrunk-back : (s s₁ y : List ℕ) (cat k from places w at n : ℕ) → n ≡ num 0 (take (cat + k - cat) (drop cat s)) → cat + k ≤ length s₁
-    → y ≡ be (length (take (cat + k - cat) (drop cat s₁))) (n - 1) [] → s₁ ≡ removedAt from places w n at s
-    → putMid cat (cat + k - cat) s₁ y ≡ shrunk cat k from places w at s
+pub shrunk-back : (s s₁ y : List ℕ) (cat k from places w at run n : ℕ) → n ≡ num 0 (take (cat + k - cat) (drop cat s)) → cat + k ≤ length s₁
+    → y ≡ be (length (take (cat + k - cat) (drop cat s₁))) (n - run) [] → s₁ ≡ removedAt from places w n at run s
+    → putMid cat (cat + k - cat) s₁ y ≡ shrunk cat k from places w at run s
 unfolding shrunk
-shrunk-back s s₁ y cat k from places w at n e l f g =
+shrunk-back s s₁ y cat k from places w at run n e l f g =
     let c = read-count s cat k n e in
-    count-put s₁ y cat k (n - 1) l f ∙ rw (g, c)
+    count-put s₁ y cat k (n - run) l f ∙ rw (g, c)

@@ -10,6 +10,7 @@ pub mod Counting
 pub mod Orders
 pub mod Sorting
 pub mod Placing
+pub mod Runs
 pub mod Halving
 pub mod Answers
 pub mod Signed

@@ -8,9 +8,9 @@ use lib.ListN.{length, take, drop, length-take, length-drop}
 use borrow.Rule.Slice.PartMut.{putMid}
 use Rattle.values.specs.Area.{inserted, closed, part, insertedAt, removedAt, withRecord, Spare, Taken, Room, Place}
 use Rattle.values.specs.Records.{Wide, area}
-use Rattle.values.specs.Sorted.{insertAt, removeAt}
+use Rattle.values.specs.Sorted.{insertAt, removeRun}
 use Rattle.values.proofs.Nest.{part-of, with-of, mid-back}
-use Rattle.values.proofs.Records.{insert-area, remove-area, length-area, times-lt}
+use Rattle.values.proofs.Records.{insert-area, remove-area, length-area, times-lt, run-fits}
 
 module _ (s : List ℕ) (from places count at w : ℕ) where
   pub spare-place : Spare s from places count at w → (at * w ≤ count * w) × (count * w + w ≤ places * w)
@@ -27,18 +27,19 @@ module _ (s : List ℕ) (from places count at w : ℕ) where
   inserted-back r y l e =
       rw (e, l) (mid-back from (from + places * w) s (inserted (at * w) (count * w) r (take (from + places * w - from) (drop from s))) (omega arith))
 
-  pub taken-place : Taken s from places w count at → (at * w + w ≤ count * w) × (count * w ≤ places * w)
-  taken-place h = (times-lt at count w (h .at-lt), mul-le-mul-right w (h .count-le))
+  module _ (run : ℕ) where
+    pub taken-place : Taken s from places w count at run → (at * w + run * w ≤ count * w) × (count * w ≤ places * w)
+    taken-place h = (run-fits at run count w (h .run-le), mul-le-mul-right w (h .count-le))
 
-  pub taken-room : Taken s from places w count at → Place (take (from + places * w - from) (drop from s)) (at * w) (count * w) w
-  taken-room h =
-      let p = taken-place h in
-      let i = h .inside in
-      record { at-le = p .0; fits = simp (length-take, length-drop) (omega arith) }
+    pub taken-room : Taken s from places w count at run → Place (take (from + places * w - from) (drop from s)) (at * w) (count * w) (run * w)
+    taken-room h =
+        let p = taken-place h in
+        let i = h .inside in
+        record { at-le = p .0; fits = simp (length-take, length-drop) (omega arith) }
 
-  pub removed-back : (y : List ℕ) → y ≡ closed (at * w) (count * w) w (take (from + places * w - from) (drop from s)) → putMid from (from + places * w - from) s y ≡ removedAt from places w count at s
-  unfolding removedAt part
-  removed-back y e = rw e (mid-back from (from + places * w) s (closed (at * w) (count * w) w (take (from + places * w - from) (drop from s))) (omega arith))
+    pub removed-back : (y : List ℕ) → y ≡ closed (at * w) (count * w) (run * w) (take (from + places * w - from) (drop from s)) → putMid from (from + places * w - from) s y ≡ removedAt from places w count at run s
+    unfolding removedAt part
+    removed-back y e = rw e (mid-back from (from + places * w) s (closed (at * w) (count * w) (run * w) (take (from + places * w - from) (drop from s))) (omega arith))
 
 pub written-back : (s y r : List ℕ) (from at : ℕ) → y ≡ r → putMid (from + at * length r) (from + at * length r + length r - (from + at * length r)) s y ≡ withRecord from at r s
 unfolding withRecord
@@ -61,11 +62,12 @@ module _ (from places w : ℕ) (rs : List (List ℕ)) (a z : List ℕ) (wide : W
       spare : places - length rs ≡ suc (places - suc (length rs))
       spare = omega arith
 
-  pub remove-place : (i : ℕ) → i < length rs → length rs ≤ places
-      → removedAt from places w (length rs) i (a ++ (area w rs (places - length rs) ++ z)) ≡ a ++ (area w (removeAt i rs) (suc (places - length rs)) ++ z)
+  -- a run of records taken out
+  pub remove-place : (i n : ℕ) → i + n ≤ length rs → length rs ≤ places
+      → removedAt from places w (length rs) i n (a ++ (area w rs (places - length rs) ++ z)) ≡ a ++ (area w (removeRun i n rs) (n + (places - length rs)) ++ z)
   unfolding removedAt
-  remove-place i h k =
+  remove-place i n h k =
       let x = area w rs (places - length rs) in
       let f = full (places - length rs) (omega arith) in
-      rw (part-of from (from + places * w) a x z ea f, with-of from (from + places * w) (closed (i * w) (length rs * w) w x) a x z ea f (omega arith))
-      (ap (λ (l : List ℕ). a ++ (l ++ z)) (remove-area w i (places - length rs) rs wide h))
+      rw (part-of from (from + places * w) a x z ea f, with-of from (from + places * w) (closed (i * w) (length rs * w) (n * w) x) a x z ea f (omega arith))
+      (ap (λ (l : List ℕ). a ++ (l ++ z)) (remove-area w i n (places - length rs) rs wide h))

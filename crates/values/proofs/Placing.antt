@@ -11,8 +11,9 @@ use lib.Dec.{isEq}
 use lib.ListN.{length, getD}
 use Rattle.values.specs.Basic.{isLt, place, insertBy, keepIf, keep, any, find}
 use Rattle.values.specs.Sorted.{In, All, Below, Sorted, countOf, Falls, insertAt, removeAt, replaceAt}
-use Rattle.values.proofs.Orders.{Ord, opp, congʳ}
+use Rattle.values.proofs.Orders.{Ord, opp, congʳ, gt≢lt}
 use Rattle.values.proofs.Sorting.{any-in, insert-sorted, keep-sorted}
+use Rattle.values.proofs.Runs.{none-before, falls-keyed}
 
 module _ {A : Type 0} (q : A → Bool) where
   -- where none passes
@@ -51,26 +52,19 @@ module _ {A : Type 0} {cmp : A → A → Ordering} (O : Ord cmp) (a : A) where
       by-test eq e = absurd (true≢false (sym (ap isLt (congʳ O x y a e ∙ b)) ∙ h))
       by-test gt e = e
 
-  none-before : (xs : List A) → All (λ y. cmp y a ≡ gt) xs → rank cmp a xs ≡ 0
-  unfolding countOf
-  none-before [] h = refl
-  none-before (x ∷ xs) h = rw (h .0, none-before xs (h .1))
-
   none-equal : (xs : List A) → All (λ y. cmp y a ≡ gt) xs → holds cmp a xs ≡ false
   none-equal [] h = refl
   none-equal (x ∷ xs) h = rw (h .0) (none-equal xs (h .1))
 
   -- both, of what follows an element that is not before a
   rest-before : (x : A) (xs : List A) → Sorted cmp (x ∷ xs) → isLt (cmp x a) ≡ false → rank cmp a xs ≡ 0
-  rest-before x xs s h = none-before xs (behind x xs (s .0) (s .1) h)
+  rest-before x xs s h = none-before {cmp = cmp} O (λ y. y) (λ y z l e. gt≢lt (sym e ∙ l)) a x xs s h
 
   rest-equal : (x : A) (xs : List A) → Sorted cmp (x ∷ xs) → isLt (cmp x a) ≡ false → holds cmp a xs ≡ false
   rest-equal x xs s h = none-equal xs (behind x xs (s .0) (s .1) h)
 
   pub falls-sorted : (xs : List A) → Sorted cmp xs → Falls (λ x. isLt (cmp x a)) xs
-  unfolding Falls
-  falls-sorted [] s = tt
-  falls-sorted (x ∷ xs) s = (rest-before x xs s, falls-sorted xs (s .1))
+  falls-sorted xs s = falls-keyed {cmp = cmp} O (λ y. y) (λ y z l e. gt≢lt (sym e ∙ l)) a xs s
 
   -- whether one is equal shows at the place
   pub holds-at : (d : A) (xs : List A) → Sorted cmp xs → rank cmp a xs < length xs → holds cmp a xs ≡ isEq (cmp (getD xs (rank cmp a xs) d) a)

@@ -8,7 +8,8 @@ use lib.ListN.{length, take, drop, getD, replicate, length-append, length-take, 
 use lib.Seq.{length-take-le, drop-cons, take-at, drop-at, drop-drop}
 use Rattle.values.specs.Area.{closed, inserted, withPart}
 use Rattle.values.specs.Records.{joined, Wide, area, records}
-use Rattle.values.specs.Sorted.{insertAt, removeAt, replaceAt}
+use Rattle.values.specs.Sorted.{insertAt, removeRun, removeAt, replaceAt}
+use Rattle.values.proofs.Changes.{remove-one}
 use Rattle.values.proofs.Nest.{with-of}
 
 -- one more of w bytes
@@ -97,7 +98,10 @@ module _ (w i : ℕ) (rs : List (List ℕ)) (wide : Wide w rs) where
 joined-split : (i : ℕ) (rs : List (List ℕ)) → joined rs ≡ joined (take i rs) ++ joined (drop i rs)
 joined-split i rs = ap joined (sym (take-append-drop i rs)) ∙ joined-append (take i rs) (drop i rs)
 
--- zeros of one place more
+-- zeros of n places more
+zeros-places : (n k w : ℕ) → replicate {A = ℕ} ((n + k) * w) 0 ≡ replicate (n * w) 0 ++ replicate (k * w) 0
+zeros-places n k w = ap (λ (m : ℕ). replicate m 0) (add-mul n k w) ∙ sym (replicate-append-replicate (n * w) (k * w) 0)
+
 zeros-place : (k w : ℕ) → replicate {A = ℕ} (suc k * w) 0 ≡ replicate w 0 ++ replicate (k * w) 0
 zeros-place k w = ap (λ (n : ℕ). replicate n 0) (suc-mul k w ∙ add-comm (k * w) w) ∙ sym (replicate-append-replicate w (k * w) 0)
 
@@ -130,20 +134,33 @@ pub wide-insert : (w i : ℕ) (r : List ℕ) (rs : List (List ℕ)) → Wide w r
 unfolding insertAt Wide
 wide-insert w i r rs h e = wide-append w (take i rs) (r ∷ drop i rs) (wide-take w i rs h) (e, wide-drop w i rs h)
 
-pub wide-remove : (w i : ℕ) (rs : List (List ℕ)) → Wide w rs → Wide w (removeAt i rs)
-unfolding removeAt
-wide-remove w i rs h = wide-append w (take i rs) (drop (suc i) rs) (wide-take w i rs h) (wide-drop w (suc i) rs h)
+pub wide-remove-run : (w i n : ℕ) (rs : List (List ℕ)) → Wide w rs → Wide w (removeRun i n rs)
+unfolding removeRun
+wide-remove-run w i n rs h = wide-append w (take i rs) (drop (i + n) rs) (wide-take w i rs h) (wide-drop w (i + n) rs h)
 
--- the record at place i taken out
-pub remove-area : (w i k : ℕ) (rs : List (List ℕ)) → Wide w rs → i < length rs
-    → closed (i * w) (length rs * w) w (area w rs k) ≡ area w (removeAt i rs) (suc k)
-unfolding area removeAt joined
-remove-area w i k rs wide h =
-    ap (closed (i * w) (length rs * w) w) (rw (joined-split i rs, drop-cons rs i [] h, append-assoc, append-assoc))
-    ∙ closed-of-parts (i * w) (length rs * w) w (joined (take i rs)) (getD rs i []) (joined (drop (suc i) rs)) (replicate (k * w) 0)
-    (length-front w i rs wide (omega arith)) (wide-at w i rs wide h)
-    (length-back w (suc i) rs wide h ∙ ap (λ (n : ℕ). length rs * w - n) (suc-mul i w)) (times-lt i (length rs) w h)
-    ∙ sym (rw (joined-append (take i rs) (drop (suc i) rs), append-assoc, zeros-place k w))
+pub wide-remove : (w i : ℕ) (rs : List (List ℕ)) → Wide w rs → Wide w (removeAt i rs)
+wide-remove w i rs h = rw (remove-one i rs) (wide-remove-run w i 1 rs h)
+
+-- n records from place i on, between those before and those behind
+joined-run : (i n : ℕ) (rs : List (List ℕ)) → joined rs ≡ joined (take i rs) ++ (joined (take n (drop i rs)) ++ joined (drop (i + n) rs))
+joined-run i n rs =
+    joined-split i rs
+    ∙ ap (λ (l : List ℕ). joined (take i rs) ++ l) (joined-split n (drop i rs) ∙ ap (λ (ts : List (List ℕ)). joined (take n (drop i rs)) ++ joined ts) (drop-drop n i rs))
+
+-- the places of a run lie within
+pub run-fits : (i n m w : ℕ) → i + n ≤ m → i * w + n * w ≤ m * w
+run-fits i n m w h = subst (λ (k : ℕ). k ≤ m * w) (add-mul i n w) (mul-le-mul-right w h)
+
+-- the run of n records from place i on taken out
+pub remove-area : (w i n k : ℕ) (rs : List (List ℕ)) → Wide w rs → i + n ≤ length rs
+    → closed (i * w) (length rs * w) (n * w) (area w rs k) ≡ area w (removeRun i n rs) (n + k)
+unfolding area removeRun
+remove-area w i n k rs wide h =
+    ap (closed (i * w) (length rs * w) (n * w)) (rw (joined-run i n rs, append-assoc, append-assoc))
+    ∙ closed-of-parts (i * w) (length rs * w) (n * w) (joined (take i rs)) (joined (take n (drop i rs))) (joined (drop (i + n) rs)) (replicate (k * w) 0)
+    (length-front w i rs wide (omega arith)) (length-front w n (drop i rs) (wide-drop w i rs wide) (simp length-drop (omega arith)))
+    (length-back w (i + n) rs wide h ∙ ap (λ (m : ℕ). length rs * w - m) (add-mul i n w)) (run-fits i n (length rs) w h)
+    ∙ sym (rw (joined-append (take i rs) (drop (i + n) rs), append-assoc, zeros-places n k w))
 
 pub length-area : (w k : ℕ) (rs : List (List ℕ)) → Wide w rs → length (area w rs k) ≡ (length rs + k) * w
 unfolding area

@@ -48,19 +48,19 @@ pub record Spare (s : List ℕ) (from places count at width : ℕ) : Type 0 wher
   pub room : count < places
   pub at-le : at ≤ count
 
--- a place that one of `count` records holds
-pub record Taken (s : List ℕ) (from places width count at : ℕ) : Type 0 where
+-- a run of places, from `at` on, that some of `count` records hold
+pub record Taken (s : List ℕ) (from places width count at run : ℕ) : Type 0 where
   pub inside : from + places * width ≤ length s
   pub count-le : count ≤ places
-  pub at-lt : at < count
+  pub run-le : at + run ≤ count
 
 -- a record put in at place `at` of the `count` records that start at `from`
 unfoldable pub insertedAt : ℕ → ℕ → ℕ → ℕ → List ℕ → List ℕ → List ℕ
 insertedAt from places count at r s = withPart from (from + places * length r) (inserted (at * length r) (count * length r) r (part from (from + places * length r) s)) s
 
--- the record at place `at` taken out
-unfoldable pub removedAt : ℕ → ℕ → ℕ → ℕ → ℕ → List ℕ → List ℕ
-removedAt from places width count at s = withPart from (from + places * width) (closed (at * width) (count * width) width (part from (from + places * width) s)) s
+-- the run of records from place `at` on taken out
+unfoldable pub removedAt : ℕ → ℕ → ℕ → ℕ → ℕ → ℕ → List ℕ → List ℕ
+removedAt from places width count at run s = withPart from (from + places * width) (closed (at * width) (count * width) (run * width) (part from (from + places * width) s)) s
 
 -- the record of w bytes at place `at`, and another over it
 unfoldable pub recordAt : ℕ → ℕ → ℕ → List ℕ → List ℕ

@@ -18,19 +18,19 @@ countAt cat k s = num 0 (take k (drop cat s))
 unfoldable pub grown : ℕ → ℕ → ℕ → ℕ → ℕ → List ℕ → List ℕ → List ℕ
 grown cat k from places at r s = withPart cat (cat + k) (be k (countAt cat k s + 1) []) (insertedAt from places (countAt cat k s) at r s)
 
--- a record taken out, and the count one less
-unfoldable pub shrunk : ℕ → ℕ → ℕ → ℕ → ℕ → ℕ → List ℕ → List ℕ
-shrunk cat k from places w at s = withPart cat (cat + k) (be k (countAt cat k s - 1) []) (removedAt from places w (countAt cat k s) at s)
+-- a run of records taken out, and the count less by as many
+unfoldable pub shrunk : ℕ → ℕ → ℕ → ℕ → ℕ → ℕ → ℕ → List ℕ → List ℕ
+shrunk cat k from places w at run s = withPart cat (cat + k) (be k (countAt cat k s - run) []) (removedAt from places w (countAt cat k s) at run s)
 
 pub record Grows (s : List ℕ) (cat k from places at w : ℕ) : Type 0 where
   pub small : k ≤ 8
   pub before : cat + k ≤ from
   pub spare : Spare s from places (countAt cat k s) at w
 
-pub record Shrinks (s : List ℕ) (cat k from places w at : ℕ) : Type 0 where
+pub record Shrinks (s : List ℕ) (cat k from places w at run : ℕ) : Type 0 where
   pub small : k ≤ 8
   pub before : cat + k ≤ from
-  pub taken : Taken s from places w (countAt cat k s) at
+  pub taken : Taken s from places w (countAt cat k s) at run
 
 -- a record of w bytes can go in at place i
 pub record Fresh (w places i : ℕ) (r : List ℕ) (rs : List (List ℕ)) : Type 0 where

@@ -1,4 +1,4 @@
--- Strictly sorted lists over any comparison; members; an element at a place put in and taken out. Assumes nothing.
+-- Strictly sorted lists over any comparison; members; an element at a place put in, a run of them taken out. Assumes nothing.
 use mathlib.Core.Path.{_≡_}
 use mathlib.Core.Bool.{Bool, true, false, cond}
 use mathlib.Core.Logic.{_⊎_}
@@ -27,6 +27,10 @@ module _ {A : Type 0} where
 
   unfoldable pub insertAt : ℕ → A → List A → List A
   insertAt i x xs = take i xs ++ (x ∷ drop i xs)
+
+  -- k elements from place i on taken out, and one
+  unfoldable pub removeRun : ℕ → ℕ → List A → List A
+  removeRun i k xs = take i xs ++ drop (i + k) xs
 
   unfoldable pub removeAt : ℕ → List A → List A
   removeAt i xs = take i xs ++ drop (suc i) xs

@@ -60,15 +60,24 @@ pub fn open_at(s: &mut [u8], from: usize, places: usize, width: usize, count: us
     open_place(&mut s[from..to], p, used, width);
 }
 
-// Takes the record at place `at` of the `count` records that start at `from` out.
-pub fn close_at(s: &mut [u8], from: usize, places: usize, width: usize, count: usize, at: usize)
-    requires { ⌜ Taken (now s) from places width count at ⌝ }
-    ensures { λ _. ⌜ now (s .exit) ≡ removedAt from places width count at (now (s .entry)) ⌝ }
+// Takes `run` records out, from place `at` on, of the `count` records that start at `from`.
+pub fn close_at(
+    s: &mut [u8],
+    from: usize,
+    places: usize,
+    width: usize,
+    count: usize,
+    at: usize,
+    run: usize,
+)
+    requires { ⌜ Taken (now s) from places width count at run ⌝ }
+    ensures { λ _. ⌜ now (s .exit) ≡ removedAt from places width count at run (now (s .entry)) ⌝ }
 {
     let to = from + places * width;
     let p = at * width;
     let used = count * width;
-    close_place(&mut s[from..to], p, used, width);
+    let gone = run * width;
+    close_place(&mut s[from..to], p, used, gone);
 }
 
 // The number in the k bytes at `cat`.
@@ -99,7 +108,7 @@ pub fn open_counted(
     bytes::put(&mut s[cat..end], (n + 1) as u64);
 }
 
-// Takes the record at place `at` out; the k bytes at `cat` count them.
+// Takes `run` records out, from place `at` on; the k bytes at `cat` count them.
 pub fn close_counted(
     s: &mut [u8],
     cat: usize,
@@ -108,14 +117,15 @@ pub fn close_counted(
     places: usize,
     width: usize,
     at: usize,
+    run: usize,
 )
-    requires { ⌜ Shrinks (now s) cat k from places width at ⌝ }
-    ensures { λ _. ⌜ now (s .exit) ≡ shrunk cat k from places width at (now (s .entry)) ⌝ }
+    requires { ⌜ Shrinks (now s) cat k from places width at run ⌝ }
+    ensures { λ _. ⌜ now (s .exit) ≡ shrunk cat k from places width at run (now (s .entry)) ⌝ }
 {
     let end = cat + k;
     let n = bytes::get(&s[cat..end]) as usize;
-    close_at(s, from, places, width, n, at);
-    bytes::put(&mut s[cat..end], (n - 1) as u64);
+    close_at(s, from, places, width, n, at, run);
+    bytes::put(&mut s[cat..end], (n - run) as u64);
 }
 
 // The record at place `at` of those that start at `from`.

@@ -3,7 +3,7 @@ ghost use mathlib.Core.Path.{_≡_};
 ghost use mathlib.Core.List.{[]};
 ghost use Prim.Native.Nat.{_≤_};
 ghost use lib.ListN.{length};
-ghost use Rattle.values.specs.Bytes.{be, num, leqb};
+ghost use Rattle.values.specs.Bytes.{be, num, leqb, zeros};
 ghost use Rattle.values.specs.Area.{cleared};
 
 // A byte as a word.
@@ -50,6 +50,20 @@ pub fn same_bytes(a: &[u8], b: &[u8]) -> bool
     let mut i = 0;
     while i < a.len() {
         if a[i] != b[i] {
+            return false;
+        }
+        i += 1;
+    }
+    true
+}
+
+// Whether every byte is zero.
+pub fn all_zero(s: &[u8]) -> bool
+    ensures { λ r. ⌜ r ≡ zeros (now (s .entry)) ⌝ }
+{
+    let mut i = 0;
+    while i < s.len() {
+        if s[i] != 0 {
             return false;
         }
         i += 1;

@@ -6,8 +6,8 @@ use borrow.Author.Needs.{needs}
 use Rattle.values.proofs.area.close_at.Statement.{statement}
 use Rattle.values.proofs.area.close_at.Tie as tie
 
-held : (c : tie.Start) → let a = c .args in (a .at * a .width + a .width ≤ a .count * a .width) × (a .count * a .width ≤ a .places * a .width)
-held c = let a = c .args in taken-place (a .s .now) (a .from) (a .places) (a .count) (a .at) (a .width) (c .pre)
+held : (c : tie.Start) → let a = c .args in (a .at * a .width + a .run * a .width ≤ a .count * a .width) × (a .count * a .width ≤ a .places * a .width)
+held c = let a = c .args in taken-place (a .s .now) (a .from) (a .places) (a .count) (a .at) (a .width) (a .run) (c .pre)
 
 mul-to : tie.Need-mul-to
 mul-to c = search needs
@@ -20,6 +20,9 @@ mul-p c = omega (arith, held (c .before))
 
 mul-used : tie.Need-mul-used
 mul-used c = omega (arith, held (c .before))
+
+mul-gone : tie.Need-mul-gone
+mul-gone c = omega (arith, held (c .before))
 
 sub-close-place : tie.Need-sub-close-place
 sub-close-place c = search needs
@@ -34,7 +37,7 @@ close-place-requires : tie.Need-close-place-requires
 close-place-requires c κs =
     let s = c .before .before in
     let a = s .args in
-    taken-room (a .s .now) (a .from) (a .places) (a .count) (a .at) (a .width) (s .pre)
+    taken-room (a .s .now) (a .from) (a .places) (a .count) (a .at) (a .width) (a .run) (s .pre)
 
 same-length : tie.Need-same-length
 same-length c = search needs
@@ -42,7 +45,7 @@ same-length c = search needs
 returns : tie.Need-returns
 returns c =
     let a = c .before .before .before .before .before .args in
-    removed-back (a .s .now) (a .from) (a .places) (a .count) (a .at) (a .width) (c .before .before .close-place .last .0) (c .before .before .close-place .ensures)
+    removed-back (a .s .now) (a .from) (a .places) (a .count) (a .at) (a .width) (a .run) (c .before .before .close-place .last .0) (c .before .before .close-place .ensures)
 
 pub close-at-spec : {M : Type 1} → statement M
 close-at-spec =
@@ -52,6 +55,7 @@ close-at-spec =
     add-to
     mul-p
     mul-used
+    mul-gone
     sub-close-place
     part-close-place-start
     part-close-place-end

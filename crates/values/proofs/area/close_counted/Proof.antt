@@ -32,7 +32,7 @@ close-at-requires : tie.Need-close-at-requires
 close-at-requires c κs =
     let s = c .before .before .before .before .before in
     let a = s .args in
-    subst (λ (n : ℕ). Taken (a .s .now) (a .from) (a .places) (a .width) n (a .at)) (counted (c .before)) (s .pre .taken)
+    subst (λ (n : ℕ). Taken (a .s .now) (a .from) (a .places) (a .width) n (a .at) (a .run)) (counted (c .before)) (s .pre .taken)
 
 sub-put : tie.Need-sub-put
 sub-put c = search needs
@@ -46,7 +46,7 @@ part-put-end c = search needs
 sub-put-2 : tie.Need-sub-put-2
 sub-put-2 c =
     let g = c .before .before .before .before .before in
-    omega (arith, counted g, g .before .before .before .before .pre .taken .at-lt)
+    omega (arith, counted g, g .before .before .before .before .pre .taken .run-le)
 
 put-requires : tie.Need-put-requires
 put-requires c κs = search needs
@@ -60,7 +60,7 @@ returns c =
     let g = i .before .before in
     let a = g .before .before .before .before .args in
     let l : a .cat + a .k ≤ length (i .close-at .last .0) = omega arith in
-    shrunk-back (a .s .now) (i .close-at .last .0) (c .before .before .put .last .0) (a .cat) (a .k) (a .from) (a .places) (a .width) (a .at)
+    shrunk-back (a .s .now) (i .close-at .last .0) (c .before .before .put .last .0) (a .cat) (a .k) (a .from) (a .places) (a .width) (a .at) (a .run)
     (g .get .result) (g .get .ensures) l (c .before .before .put .ensures) (i .close-at .ensures)
 
 pub close-counted-spec : {M : Type 1} → statement M
