@@ -1,0 +1,14 @@
+pub mod Profile
+pub mod State
+pub mod Index
+pub mod Layout
+pub mod Refusal
+pub mod Request
+pub mod Schema
+pub mod Rows
+pub mod Step
+pub mod Sound
+pub mod Readable
+pub mod Frame
+pub mod Ascii
+pub mod Sheet
