@@ -1,0 +1,14 @@
+pub mod Inside
+pub mod Stores
+pub mod Finding
+pub mod Columns
+pub mod Searching
+pub mod Faulting
+pub mod Validating
+pub mod TableAt
+pub mod Runs
+pub mod References
+pub mod Outcomes
+pub mod ByName
+pub mod Dropped
+pub mod Created

@@ -1,0 +1,35 @@
+-- The faults of a column in the three parts that the code asks them in: 7 to 10, 11 to 13, 14 to 17. Assumes nothing.
+use mathlib.Core.Bool.{Bool, not, _&&_}
+use mathlib.Core.List.{List, [], _∷_}
+use mathlib.Core.Option.{Option}
+use Rattle.values.specs.Basic.{isNil, isNone, isSome}
+use Rattle.rules.specs.declared.answer.Refusal.{Refusal}
+use Rattle.rules.specs.declared.answer.Refusal.the-variants.{EmptyColumnName, KeyNullable, KeyNotUnique, KeyIndexed, NullableWithoutDefault, NullDefault, DefaultKind, UniqueNotIndexed, ReferenceNotIndexed, UnknownTarget, TargetKind}
+use Rattle.rules.specs.State.{Column, Table}
+use Rattle.rules.specs.Schema.{first, targetKind, nullDefault, defaultOfOtherKind, noTarget, targetOfOtherKind}
+
+unfoldable pub keyFault : Bool → Column → Option Refusal
+keyFault key c =
+    first
+    ((EmptyColumnName, isNil (c .name))  -- 7
+    ∷ (KeyNullable, key && c .nullable)  -- 8
+    ∷ (KeyNotUnique, key && not (c .unique))  -- 9
+    ∷ (KeyIndexed, key && c .index)  -- 10
+    ∷ [])
+
+unfoldable pub defaultFault : Column → Option Refusal
+defaultFault c =
+    first
+    ((NullableWithoutDefault, c .nullable && isNone (c .default))  -- 11
+    ∷ (NullDefault, not (c .nullable) && nullDefault (c .default))  -- 12
+    ∷ (DefaultKind, defaultOfOtherKind (c .kind) (c .default))  -- 13
+    ∷ [])
+
+unfoldable pub referenceFault : List Table → Table → Bool → Column → Option Refusal
+referenceFault ts t key c =
+    first
+    ((UniqueNotIndexed, c .unique && (not (c .index) && not key))  -- 14
+    ∷ (ReferenceNotIndexed, isSome (c .reference) && (not (c .index) && not key))  -- 15
+    ∷ (UnknownTarget, noTarget (targetKind ts t) (c .reference))  -- 16
+    ∷ (TargetKind, targetOfOtherKind (targetKind ts t) (c .kind) (c .reference))  -- 17
+    ∷ [])

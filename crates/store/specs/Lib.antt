@@ -1,0 +1,4 @@
+pub mod Store
+pub mod Column
+pub mod Catalog
+pub mod Faults
