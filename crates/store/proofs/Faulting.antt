@@ -6,7 +6,7 @@ use Prim.Native.Nat.{ℕ}
 use mathlib.Core.List.{List, [], _∷_, _++_}
 use lib.Dec.{eqb}
 use borrow.Author.Tests.{eq-eqb, ne-eqb, not-true, not-false}
-use Rattle.values.specs.Basic.{isNil, isNone, onlyIf, _orElse_}
+use Rattle.values.specs.Basic.{isNil, isNone, isSome, onlyIf, _orElse_}
 use Rattle.values.specs.Value.{Value, kindOf, isNull}
 use Rattle.values.specs.Sorted.{All}
 use Rattle.rules.specs.declared.answer.Refusal.{Refusal}
@@ -121,7 +121,7 @@ module _ (ts : List Table) (t : Table) (key : Bool) (c : Column) (bare : Bool) (
 
 -- ---- the three in turn
 
-first-append : (xs ys : List (Refusal × Bool)) → first (xs ++ ys) ≡ first xs orElse first ys
+pub first-append : (xs ys : List (Refusal × Bool)) → first (xs ++ ys) ≡ first xs orElse first ys
 unfolding first _orElse_
 first-append [] ys = refl
 first-append (x ∷ xs) ys = by-test (x .1) (first-append xs ys)
@@ -139,7 +139,7 @@ in-turn ts t i c = first-append _ _ ∙ ap (λ (o : Option Refusal). keyFault (e
 abbrev pub Told : Option Refusal → Type 0
 Told o = eqb (numberOf (kindOfFault o)) 0 ≡ isNone o
 
-told : (xs : List (Refusal × Bool)) → All (λ x. eqb (numberOf (x .0)) 0 ≡ false) xs → Told (first xs)
+pub told : (xs : List (Refusal × Bool)) → All (λ x. eqb (numberOf (x .0)) 0 ≡ false) xs → Told (first xs)
 unfolding first
 told [] h = refl
 told (x ∷ xs) h = by-test (x .1) (told xs (h .1))
@@ -160,7 +160,7 @@ pub reference-told : (ts : List Table) (t : Table) (key : Bool) (c : Column) →
 unfolding referenceFault
 reference-told ts t key c = told _ (refl, (refl, (refl, (refl, tt))))
 
-or-told : (a b : Option Refusal) → Told a → Told b → Told (a orElse b)
+pub or-told : (a b : Option Refusal) → Told a → Told b → Told (a orElse b)
 unfolding _orElse_
 or-told none b h k = k
 or-told (some x) b h k = h

@@ -12,7 +12,7 @@ use Rattle.values.specs.Records.{Wide, records}
 use Rattle.values.specs.Counted.{countAt}
 use Rattle.values.proofs.Records.{length-records, getD-records, wide-records, wide-at}
 use Rattle.rules.specs.declared.profile.Profile.{Profile}
-use Rattle.rules.specs.Profile.{headerWidth, schemaWidth, rowWidth, entryWidth}
+use Rattle.rules.specs.Profile.{headerWidth, schemaWidth, rowWidth, entryWidth, storeLength}
 use Rattle.rules.specs.Layout.{lists, Area, Schemas, Rows, Entries, countPlace, countWidth, areaAt, recordWidth, areaPlaces, inArea}
 use Rattle.rules.proofs.Widths.{header-within, area-within, place-within}
 use Rattle.store.specs.Store.{Inside}
@@ -51,6 +51,9 @@ module _ (p : Profile) (R : ℕ) (s : List ℕ) where
     count-within Schemas = i .tables-le
     count-within Rows = i .rows-le
     count-within Entries = i .entries-le
+
+    pub area-start : (a : Area) (from : ℕ) → from ≡ areaAt p R a → from ≤ length s
+    area-start a from e = omega (arith, e, i .long, area-within p R a)
 
     -- an area's records lie behind its start
     pub records-within : (a : Area) → countOfArea a * recordWidth p a ≤ length (drop (areaAt p R a) s)

@@ -12,3 +12,14 @@ pub mod Outcomes
 pub mod ByName
 pub mod Dropped
 pub mod Created
+pub mod Ranking
+pub mod Keyed
+pub mod Writing
+pub mod Entering
+pub mod Midway
+pub mod RowFacts
+pub mod RowRemoved
+pub mod RowAdded
+pub mod Taking
+pub mod Checking
+pub mod Fitting

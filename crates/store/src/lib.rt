@@ -2,3 +2,6 @@
 pub mod layout; // where things stand
 pub mod schema; // schema.rs: a stored schema's columns, and what is wrong with a schema
 pub mod local; // local.rs: the catalog
+pub mod row; // rows by place
+pub mod change; // a row added, replaced, removed
+pub mod check; // schema.rs: what is wrong with a row

@@ -10,9 +10,10 @@ use values::value::Cell;
 use values::value::Order;
 use values::value::Text;
 ghost use mathlib.Core.Path.{_≡_};
-ghost use Prim.Native.Nat.{_<_};
+ghost use Prim.Native.Nat.{_+_, _≤_, _<_};
 ghost use mathlib.Core.List.{[]};
-ghost use lib.ListN.{length};
+ghost use lib.ListN.{length, getD};
+ghost use Rattle.values.specs.Cell.{nameWidth};
 ghost use Rattle.values.specs.Meaning.{textBytes, Packed};
 ghost use Rattle.rules.specs.State.{isNamed};
 ghost use Rattle.rules.specs.Layout.{bit, readTable, parse};
@@ -309,4 +310,20 @@ pub fn validate(s: &[u8], p: Profile, places: usize, rec: &[u8]) -> Fault
         return f;
     }
     repeat_fault(rec, p)
+}
+
+// The key column of a table record.
+pub fn key_column(rec: &[u8]) -> usize
+    requires { ⌜ 26 ≤ length (now rec) ⌝ }
+    ensures { λ r. ⌜ r ≡ getD (now (rec .entry)) nameWidth 0 ⌝ }
+{
+    rec[25] as usize
+}
+
+// How many columns a table record has.
+pub fn column_count(rec: &[u8]) -> usize
+    requires { ⌜ 27 ≤ length (now rec) ⌝ }
+    ensures { λ r. ⌜ r ≡ getD (now (rec .entry)) (nameWidth + 1) 0 ⌝ }
+{
+    rec[26] as usize
 }
