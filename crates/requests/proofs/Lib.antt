@@ -1,0 +1,4 @@
+pub mod Framing
+pub mod Walking
+pub mod Fronts
+pub mod Read

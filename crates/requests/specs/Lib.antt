@@ -1,0 +1,5 @@
+pub mod Reading
+pub mod Record
+pub mod Walked
+pub mod Frame
+pub mod Lines
