@@ -1,17 +1,17 @@
 -- The index of a buffer that is laid out: an entry's rank, and the lists after one is put in or taken out. Assumes nothing.
-use mathlib.Core.Path.{_≡_, refl, sym, ap, _∙_, subst}
+use mathlib.Core.Path.{_≡_, sym, ap, _∙_, subst}
 use mathlib.Core.Bool.{Bool, true, false, cond}
 use Prim.Native.Nat.{ℕ, _+_, _-_, _*_, _≤_, _<_}
 use native.Mathlib.Nat.{add-sub-cancel-left}
 use native.Mathlib.Omega.{arith}
-use mathlib.Core.List.{List, [], _∷_, map}
+use mathlib.Core.List.{List, map}
 use lib.ListN.{length, take, drop, replicate, length-map, length-drop, length-replicate}
 use lib.Seq.{length-take-le}
 use borrow.Rule.Slice.PartMut.{putMid}
 use Rattle.values.specs.Basic.{isLt}
 use Rattle.values.specs.Area.{withPart}
-use Rattle.values.specs.Cell.{nameWidth, cellWidth}
-use Rattle.values.specs.Counted.{countAt, Grows, Shrinks, grown, shrunk, Fresh}
+use Rattle.values.specs.Cell.{cellWidth}
+use Rattle.values.specs.Counted.{countAt, Grows, Shrinks, grown, shrunk}
 use Rattle.values.specs.Records.{records}
 use Rattle.values.specs.Search.{cmpNamed, cmpContent, cmpEntered, SearchIn}
 use Rattle.values.specs.Sorted.{Sorted, countOf, Falls, insertAt, removeRun, replaceAt}
@@ -20,7 +20,7 @@ use Rattle.values.proofs.Halving.{count-le, count-same, falls-same, count-map}
 use Rattle.values.proofs.Nest.{mid-back}
 use Rattle.values.proofs.Placing.{falls-sorted, found-at, sorted-remove-at}
 use Rattle.rules.specs.declared.profile.Profile.{Profile}
-use Rattle.rules.specs.Profile.{entryWidth, entriesAt, storeLength}
+use Rattle.rules.specs.Profile.{entryWidth, entriesAt}
 use Rattle.rules.specs.Index.{Entry, cmpEntry}
 use Rattle.rules.specs.Layout.{Lists, layout, lists, Laid, Entries, entriesCount, entryRecord, readEntry, withArea}
 use Rattle.rules.proofs.Index.{ordEntry}

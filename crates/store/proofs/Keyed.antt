@@ -1,5 +1,5 @@
 -- Rows by place: a row's record and its cells, and that a search by table and key over the records finds the place of a row. Assumes nothing.
-use mathlib.Core.Path.{_≡_, refl, sym, ap, _∙_, subst}
+use mathlib.Core.Path.{_≡_, refl, sym, ap, _∙_}
 use mathlib.Core.Bool.{Bool, true, false, _&&_}
 use mathlib.Core.Option.{Option, none, some, Option·some-injective}
 use Prim.Native.Nat.{ℕ, _+_, _-_, _*_, _≤_, _<_, Ordering, Ordering·lt as lt, Ordering·eq as eq, Ordering·gt as gt}
@@ -8,31 +8,31 @@ use mathlib.Core.List.{List, [], _∷_, map}
 use lib.Dec.{isEq}
 use lib.ListN.{length, take, drop, getD, length-map}
 use Rattle.values.specs.Basic.{andThen, isLt, cmpBytes, nth, orDefault}
-use Rattle.values.specs.Value.{Value, null, normalised, same, cmpValue}
-use Rattle.values.specs.Cell.{nameWidth, cellWidth, readName, readValue}
+use Rattle.values.specs.Value.{Value, null, normalised, cmpValue}
+use Rattle.values.specs.Cell.{nameWidth, cellWidth, readValue}
 use Rattle.values.specs.Counted.{countAt}
 use Rattle.values.specs.Records.{records}
 use Rattle.values.specs.Search.{cmpNamed, cmpKeyed, SearchIn}
-use Rattle.values.specs.Sorted.{In, Sorted, countOf, Falls}
+use Rattle.values.specs.Sorted.{In, Sorted, countOf}
 use Rattle.values.proofs.Orders.{exactBytes}
 use Rattle.values.proofs.Placing.{rank, holds, holds-at, holds-past}
 use Rattle.rules.specs.declared.profile.Profile.{Profile}
 use Rattle.rules.specs.Profile.{rowWidth, rowsAt}
-use Rattle.rules.specs.State.{Table, Row, cmpRow, tableNamed, isRow, cellAt, keyOf}
+use Rattle.rules.specs.State.{Row, cmpRow, tableNamed, isRow, cellAt}
 use Rattle.rules.specs.Sound.{canonical}
 use Rattle.rules.specs.Layout.{lists, Rows, rowsCount, rowRecord, recordsOf, parse}
 use Rattle.rules.proofs.Widths.{cell-within, row-most}
 use Rattle.rules.proofs.Tests.{every-at}
 use Rattle.rules.proofs.Lists.{nth-in, nth-below, below-nth, map-at}
 use Rattle.rules.proofs.Index.{ordRow}
-use Rattle.rules.proofs.Room.{indexed, key-column, table-in}
+use Rattle.rules.proofs.Room.{key-column, table-in}
 use Rattle.rules.proofs.Trip.{GoodRow, row-name, row-cell, row-long, cell-alone, canonical-normal}
 use Rattle.rules.proofs.Whole.{good-row, key-is}
 use Rattle.store.specs.Store.{LaidStore}
 use Rattle.store.specs.Catalog.{placeOf}
 use Rattle.store.specs.Row.{KeyColumn, keyed, noRow, rowIn}
 use Rattle.store.proofs.Finding.{no-place, place-rank, nth-getD}
-use Rattle.store.proofs.Columns.{rest, rest-length, value-front}
+use Rattle.store.proofs.Columns.{value-front}
 use Rattle.store.proofs.Inside.{area-count}
 use Rattle.store.proofs.Stores.{held-state, held-lists, held-inside}
 use Rattle.store.proofs.Ranking.{map-ranked, map-falls, area-read, area-inside}

@@ -23,3 +23,4 @@ pub mod RowAdded
 pub mod Taking
 pub mod Checking
 pub mod Fitting
+pub mod RowReplaced

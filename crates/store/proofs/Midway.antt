@@ -1,20 +1,19 @@
 -- A buffer between two stores: it is laid out from a state's schemas and rows and from good entries in their order, whichever they are. What is
 -- read from it, and how an entry comes and goes. Assumes nothing.
-use mathlib.Core.Path.{_≡_, refl, sym, ap, _∙_, subst}
+use mathlib.Core.Path.{_≡_, sym, ap, _∙_, subst}
 use mathlib.Core.Bool.{true, false, not}
 use mathlib.Core.Logic.{_⊎_, inl, inr}
-use mathlib.Core.Option.{Option, none, some}
-use Prim.Native.Nat.{ℕ, suc, _+_, _*_, _≤_, _<_}
-use native.Mathlib.Numerals.{add-one}
+use mathlib.Core.Option.{some}
+use Prim.Native.Nat.{ℕ, _+_, _*_, _≤_, _<_}
 use native.Mathlib.Omega.{arith}
-use mathlib.Core.List.{List, [], _∷_, map}
+use mathlib.Core.List.{List, [], map}
 use lib.Dec.{isEq}
 use lib.ListN.{length, drop, getD, length-map}
 use Rattle.values.specs.Basic.{insertBy, nth}
-use Rattle.values.specs.Value.{Value}
-use Rattle.values.specs.Cell.{nameWidth, cellWidth, readName, readValue}
-use Rattle.values.specs.Sorted.{In, Sorted, insertAt, removeRun, removeAt}
-use Rattle.values.proofs.Placing.{rank, holds, insert-new, keep-others}
+use Rattle.values.specs.Cell.{nameWidth, readName, readValue}
+use Rattle.values.specs.Sorted.{In, Sorted, insertAt, removeRun}
+use Rattle.values.proofs.Changes.{remove-one}
+use Rattle.values.proofs.Placing.{holds, insert-new, keep-others}
 use Rattle.values.proofs.Sorting.{insert-sorted, keep-sorted, in-keep}
 use Rattle.rules.specs.declared.profile.Profile.{Profile}
 use Rattle.rules.specs.Profile.{placesMost, rowWidth}
@@ -41,11 +40,6 @@ pub record Midway (p : Profile) (R : ℕ) (st : State) (s : List ℕ) : Type 0 w
   pub laid : Laid p R s (recordsOf p st (entriesIn p R s))
   pub sorted : Sorted cmpEntry (entriesIn p R s)
   pub good : (e : Entry) → In e (entriesIn p R s) → GoodEntry e
-
--- a run of one is one
-pub remove-one : {A : Type 0} (i : ℕ) (xs : List A) → removeRun i 1 xs ≡ removeAt i xs
-unfolding removeRun removeAt
-remove-one i xs = rw (add-one i)
 
 module _ (p : Profile) (k : Coded p) (R : ℕ) (most : R ≤ placesMost) (st : State) where
   -- ---- what is laid out from entries is read as them
@@ -169,7 +163,7 @@ module _ (p : Profile) (k : Coded p) (R : ℕ) (most : R ≤ placesMost) (st : S
       removed-is =
           ap (λ (x : Lists). withArea Entries (removeRun (entryRank p R e s) 1 (x .entries)) x) mid-lists
           ∙ remove-entries p st es (entryRank p R e s) 1
-          ∙ ap (recordsOf p st) (remove-one (entryRank p R e s) es ∙ sym (keep-others ordEntry e es (m .sorted) there))
+          ∙ ap (recordsOf p st) (sym (remove-one (entryRank p R e s) es) ∙ sym (keep-others ordEntry e es (m .sorted) there))
 
       removed-laid : Laid p R s₁ (recordsOf p st (withoutEntry e es))
       removed-laid = subst (Laid p R s₁) removed-is l

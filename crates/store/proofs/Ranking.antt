@@ -1,7 +1,6 @@
 -- A search by halving over the records of a sorted list finds how many of its elements are before a probe, in whichever area. Assumes nothing.
 use mathlib.Core.Path.{_≡_, refl, sym, ap, _∙_}
-use Prim.Native.Nat.{ℕ, _-_, _≤_, Ordering}
-use native.Mathlib.Omega.{arith}
+use Prim.Native.Nat.{ℕ, _-_, Ordering}
 use mathlib.Core.Logic.{inl, inr}
 use mathlib.Core.List.{List, [], _∷_, map}
 use lib.ListN.{length, take, drop}

@@ -2,23 +2,21 @@
 use mathlib.Core.Path.{_≡_, refl, sym, ap, _∙_, subst}
 use mathlib.Core.Bool.{Bool, true, false, true≢false}
 use mathlib.Core.Option.{Option, none, some, Option·map}
-use Prim.Native.Nat.{ℕ, zero, suc, _+_, _-_, _*_, _≤_, _<_, Ordering, Ordering·eq as eq}
-use native.Mathlib.Nat.{add-sub-cancel-left, sub-zero, zero-sub, suc-sub-suc}
-use native.Mathlib.Numerals.{add-one}
+use Prim.Native.Nat.{ℕ, zero, suc, _+_, _-_, _*_, _≤_, _<_, Ordering·eq as eq}
+use native.Mathlib.Nat.{sub-zero, zero-sub, suc-sub-suc}
 use native.Mathlib.Omega.{arith}
 use mathlib.Core.List.{List, [], _∷_, _++_, map, append-assoc}
 use lib.Dec.{isEq}
-use lib.ListN.{length, take, drop, getD, replicate, length-append, length-map, length-drop, length-replicate}
+use lib.ListN.{length, take, drop, getD, replicate, length-append, length-map, length-replicate}
 use lib.Seq.{length-take-le, drop-at, getD-at, getD-take}
 use borrow.Rule.Slice.PartMut.{putMid}
 use Rattle.values.specs.Basic.{isLt, keepIf, insertBy, find, isSome, nth, orDefault, cmpBytes}
 use Rattle.values.specs.Bytes.{pad}
-use Rattle.values.specs.Value.{Value, null, cmpValue}
-use Rattle.values.specs.Cell.{nameWidth, cellWidth, nameCell, valueCell}
+use Rattle.values.specs.Value.{Value, null}
+use Rattle.values.specs.Cell.{nameCell, valueCell}
 use Rattle.values.specs.Records.{joined}
-use Rattle.values.specs.Area.{withPart}
 use Rattle.values.specs.Counted.{Grows, grown}
-use Rattle.values.specs.Sorted.{In, Sorted, countOf, insertAt, replaceAt}
+use Rattle.values.specs.Sorted.{In, countOf, insertAt}
 use Rattle.values.specs.declared.value.Text.{Text}
 use Rattle.values.specs.declared.value.Value as D
 use Rattle.values.specs.Meaning.{textBytes, Packed, meaning, Proper, held, ProperCell}
@@ -28,26 +26,25 @@ use Rattle.values.proofs.Changes.{replace-insert, length-insert-at}
 use Rattle.values.proofs.Halving.{count-le}
 use Rattle.values.proofs.Nest.{mid-back}
 use Rattle.values.proofs.Orders.{self, ordBytes}
-use Rattle.values.proofs.Placing.{rank, holds, holds-in, insert-new}
+use Rattle.values.proofs.Placing.{rank, holds, insert-new}
 use Rattle.values.proofs.Records.{length-joined}
 use Rattle.values.proofs.Sorting.{find-none, in-insert-new, one-place, find-in}
 use Rattle.rules.specs.declared.profile.Profile.{Profile}
 use Rattle.rules.specs.Profile.{Known, placesMost, rowWidth, rowsAt}
 use Rattle.rules.specs.State as S
-use Rattle.rules.specs.State.{Name, Table, State, cmpRow, cmpTable, isNamed, isRow, hasRow, tableNamed, cellAt, keyOf, rowOf}
+use Rattle.rules.specs.State.{Table, State, cmpRow, isNamed, isRow, tableNamed, cellAt, keyOf, rowOf}
 use Rattle.rules.specs.Index.{Entry, cmpEntry, entryAt, entriesFrom, columnsOf, entriesOf, insertAll, indexOf}
 use Rattle.rules.specs.Step.{added, apply, withRow}
 use Rattle.rules.specs.Layout.{Lists, layout, lists, Laid, Rows, rowsCount, rowRecord, withArea, recordsOf, image, parse}
 use Rattle.rules.proofs.Contents.{insert-row}
-use Rattle.rules.proofs.Index.{ordRow, ordTable, index-sorted}
+use Rattle.rules.proofs.Index.{ordRow, ordTable}
 use Rattle.rules.proofs.IndexChanges.{Adding, adding-next, adding-start, index-added, insertAll-length}
 use Rattle.rules.proofs.Laid.{laid-grows, laid-grown, laid-replaced, laid-within, laid-part, laid-length}
 use Rattle.rules.proofs.Lists.{any-none, eq-turn, length-new}
-use Rattle.rules.proofs.Room.{indexed, index-within, few-columns}
+use Rattle.rules.proofs.Room.{index-within, few-columns}
 use Rattle.rules.proofs.Tests.{name-is}
 use Rattle.rules.proofs.Trip.{GoodRow, GoodEntry, cells-wide, row-long, name-short}
 use Rattle.rules.proofs.Valid.{LaidState, laid-is}
-use Rattle.rules.proofs.Whole.{good-entries}
 use Rattle.store.specs.declared.row.Row.{Row}
 use Rattle.store.specs.declared.schema.Column.{Column}
 use Rattle.store.specs.Column.{columnOf, ColumnRead}
@@ -57,8 +54,8 @@ use Rattle.store.specs.Store.{Coded, Inside, LaidStore}
 use Rattle.store.specs.Entered.{entriesIn, Entered, entryOf, ProperEntry, entryAdded, rowBytes}
 use Rattle.store.proofs.Finding.{nth-map, nth-getD, all-nth}
 use Rattle.store.proofs.Keyed.{row-test}
-use Rattle.store.proofs.Stores.{held-state, held-laid, held-inside}
-use Rattle.store.proofs.Midway.{Midway, midway-of, entries-back, mid-added, added-entries, mid-inside, mid-entered, mid-table, mid-table-bytes, mid-column}
+use Rattle.store.proofs.Stores.{held-state, held-inside}
+use Rattle.store.proofs.Midway.{Midway, mid-added, added-entries, mid-inside, mid-entered, mid-table, mid-table-bytes, mid-column}
 use Rattle.store.proofs.RowFacts.{RowFacts, row-facts, column-few, column-byte, good-entry, entry-is, own-columns, own-full, own-key-below, own-key, own-good, held-midway, held-entries, table-there, table-held}
 use Rattle.store.proofs.RowRemoved.{entries-left, entries-none}
 
@@ -95,7 +92,7 @@ module _ (p : Profile) (k : Coded p) (r : S.Row) (g : GoodRow p r) where
       ∙ drop-at (rowBytes (r .table) (r .cells)) (replicate (p .columns * p .cell - length (r .cells) * 26) 0) (25 + length (r .cells) * 26)
       (ap (λ (w : ℕ). length (nameCell (r .table) ++ joined (map (valueCell w) (r .cells)))) (sym (k .cells)) ∙ row-front)
 
-row-width : (p : Profile) → rowWidth p ≡ 25 + p .columns * p .cell
+pub row-width : (p : Profile) → rowWidth p ≡ 25 + p .columns * p .cell
 unfolding rowWidth
 row-width p = refl
 
@@ -161,6 +158,24 @@ module _ (p : Profile) (k : Coded p) (R : ℕ) (most : R ≤ placesMost) (st : S
             whole = ap (insertAll left) e ∙ sym (next .1) ∙ sym (ap (λ (es : List Entry). insertAll es (entriesIn p R s)) first) ∙ b .whole;
           }
 
+-- ---- a row in flight
+
+module _ (row : Row) (pr : ProperRow row) where
+  -- a cell of the row in flight
+  pub flight-cell : (j : ℕ) → j < row .count → held (getD (row .cells) j (record { value = Null })) ≡ cellAt (cellsOf row) j
+  unfolding cellsOf
+  flight-cell j h =
+      let l : length (take (row .count) (row .cells)) ≡ row .count = length-take-le (row .count) (row .cells) (pr .few) in
+      ap held (sym (getD-take (row .count) (row .cells) j (record { value = Null }) h))
+      ∙ sym (ap (λ (o : Option Value). orDefault o null)
+      (nth-map held (take (row .count) (row .cells)) j ∙ ap (Option·map held) (nth-getD (take (row .count) (row .cells)) j (record { value = Null }) (omega (arith, l)))))
+
+  pub flight-proper : (j : ℕ) → j < row .count → ProperCell (getD (row .cells) j (record { value = Null }))
+  flight-proper j h =
+      let l : length (take (row .count) (row .cells)) ≡ row .count = length-take-le (row .count) (row .cells) (pr .few) in
+      rw (← getD-take (row .count) (row .cells) j (record { value = Null }) h)
+      (all-nth ProperCell (take (row .count) (row .cells)) j (record { value = Null }) (pr .proper) (omega (arith, l)))
+
 -- ---- a row that can be added
 
 keyed-as : (x r : S.Row) → cmpRow x (keyed (r .table) (r .key)) ≡ cmpRow x r
@@ -207,21 +222,6 @@ module _ (p : Profile) (R : ℕ) (s₀ : List ℕ) (b : LaidStore p R s₀) (t :
 
   key-is-own : cellAt (cellsOf row) (T .key) ≡ r .key
   key-is-own = own-key p kn R after after-laid T there r new-there refl
-
-  -- a cell of the row in flight
-  pub flight-cell : (j : ℕ) → j < row .count → held (getD (row .cells) j (record { value = Null })) ≡ cellAt (cellsOf row) j
-  unfolding cellsOf
-  flight-cell j h =
-      let l : length (take (row .count) (row .cells)) ≡ row .count = length-take-le (row .count) (row .cells) (pr .few) in
-      ap held (sym (getD-take (row .count) (row .cells) j (record { value = Null }) h))
-      ∙ sym (ap (λ (o : Option Value). orDefault o null)
-      (nth-map held (take (row .count) (row .cells)) j ∙ ap (Option·map held) (nth-getD (take (row .count) (row .cells)) j (record { value = Null }) (omega (arith, l)))))
-
-  pub flight-proper : (j : ℕ) → j < row .count → ProperCell (getD (row .cells) j (record { value = Null }))
-  flight-proper j h =
-      let l : length (take (row .count) (row .cells)) ≡ row .count = length-take-le (row .count) (row .cells) (pr .few) in
-      rw (← getD-take (row .count) (row .cells) j (record { value = Null }) h)
-      (all-nth ProperCell (take (row .count) (row .cells)) j (record { value = Null }) (pr .proper) (omega (arith, l)))
 
   pub added-facts : (name : Text) → textBytes name ≡ T .name → Packed name → (key : D.Value) → meaning key ≡ cellAt (cellsOf row) (T .key) → Proper key → RowFacts p R T r name (row .count) key
   added-facts name en hn key ek hk =

@@ -1,8 +1,8 @@
 -- A row and its table in a state that is laid out, and the entry of a column as the code puts it together. Assumes nothing.
-use mathlib.Core.Path.{_≡_, refl, sym, ap, _∙_, subst}
+use mathlib.Core.Path.{_≡_, sym, ap, _∙_}
 use mathlib.Core.Bool.{true}
 use mathlib.Core.Option.{Option, some}
-use Prim.Native.Nat.{ℕ, _+_, _*_, _≤_, _<_}
+use Prim.Native.Nat.{ℕ, _≤_, _<_}
 use native.Mathlib.Omega.{arith}
 use mathlib.Core.List.{List, []}
 use lib.ListN.{length, getD}
@@ -18,7 +18,7 @@ use Rattle.values.proofs.Sorting.{one-place}
 use Rattle.rules.specs.declared.profile.Profile.{Profile}
 use Rattle.rules.specs.Profile.{placesMost, Known}
 use Rattle.rules.specs.State as S
-use Rattle.rules.specs.State.{Name, Table, State, cmpTable, cellAt, keyOf}
+use Rattle.rules.specs.State.{Name, Table, State, cellAt, keyOf}
 use Rattle.rules.specs.Index.{Entry, entryAt, columnsOf}
 use Rattle.rules.specs.Layout.{lists, parse, unknown}
 use Rattle.rules.specs.Sound.{canonical, goodTable, goodCells}

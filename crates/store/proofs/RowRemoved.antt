@@ -1,14 +1,11 @@
 -- A row taken out of a store: its entries go one by one, then its record, and what stands is the image of the state without it. Assumes nothing.
 use mathlib.Core.Path.{_≡_, refl, sym, ap, _∙_, subst}
-use mathlib.Core.Bool.{Bool, true, false, cond, not}
-use mathlib.Core.Logic.{inl, inr}
+use mathlib.Core.Bool.{Bool, true, false}
 use mathlib.Core.Option.{some, Option·none-ne-some, Option·some-injective}
 use Prim.Native.Nat.{ℕ, zero, suc, _+_, _*_, _≤_, _<_, Ordering, Ordering·lt as lt, Ordering·eq as eq}
-use native.Mathlib.Nat.{le-of-suc-le-suc}
 use native.Mathlib.Numerals.{add-one, one-add}
 use native.Mathlib.Omega.{arith}
 use mathlib.Core.List.{List, [], _∷_}
-use lib.Dec.{isEq}
 use lib.ListN.{length, getD, drop, drop-of-length-le, length-map}
 use Rattle.values.specs.Basic.{isLt, keepIf, nth}
 use Rattle.values.specs.Cell.{nameWidth, readValue}
@@ -16,16 +13,17 @@ use Rattle.values.specs.declared.value.Text.{Text}
 use Rattle.values.specs.declared.value.Value as D
 use Rattle.values.specs.Meaning.{textBytes, Packed, meaning, Proper}
 use Rattle.values.specs.Counted.{Shrinks, shrunk}
-use Rattle.values.specs.Sorted.{In, Sorted, countOf, removeRun, removeAt}
+use Rattle.values.specs.Sorted.{Sorted, countOf, removeRun, removeAt}
+use Rattle.values.proofs.Changes.{remove-one}
 use Rattle.values.proofs.Orders.{Ord, self, gt≢lt}
-use Rattle.values.proofs.Placing.{rank, holds, holds-in, keep-others}
+use Rattle.values.proofs.Placing.{rank, holds-in, keep-others}
 use Rattle.values.proofs.Runs.{none-before}
 use Rattle.values.proofs.Sorting.{all-below}
 use Rattle.rules.specs.declared.profile.Profile.{Profile}
 use Rattle.rules.specs.Profile.{placesMost, rowWidth, rowsAt}
 use Rattle.rules.specs.State as S
 use Rattle.rules.specs.State.{Table, State, cmpRow, cellAt}
-use Rattle.rules.specs.Index.{Entry, cmpEntry, entryAt, entriesFrom, columnsOf, entriesOf, removeAll, withoutEntry, indexOf}
+use Rattle.rules.specs.Index.{Entry, entryAt, entriesFrom, columnsOf, entriesOf, removeAll, withoutEntry, indexOf}
 use Rattle.rules.specs.Step.{removed, apply, withoutRow}
 use Rattle.rules.specs.Layout.{lists, Laid, Rows, rowsCount, rowRecord, layout, recordsOf, image, parse}
 use Rattle.rules.proofs.Contents.{remove-rows}
@@ -44,7 +42,7 @@ use Rattle.store.proofs.Keyed.{row-at, row-in}
 use Rattle.store.proofs.Stores.{held-state, held-inside}
 use Rattle.store.proofs.RowFacts.{RowFacts, row-facts, column-few, column-byte, entry-is, own-columns, own-full, own-key-below, held-midway, held-entries, table-there, table-held}
 use Rattle.store.proofs.Finding.{drop-nth}
-use Rattle.store.proofs.Midway.{Midway, remove-one, mid-removed, removed-entries, mid-inside, mid-entered, mid-table, mid-table-bytes, mid-column, mid-row, mid-row-long, mid-cell}
+use Rattle.store.proofs.Midway.{Midway, mid-removed, removed-entries, mid-inside, mid-entered, mid-table, mid-table-bytes, mid-column, mid-row, mid-row-long, mid-cell}
 
 -- in a sorted list, as many are before an element as its place says
 pub rank-nth : {A : Type 0} {cmp : A → A → Ordering} (O : Ord cmp) (xs : List A) (i : ℕ) (a : A) → Sorted cmp xs → nth xs i ≡ some a → rank cmp a xs ≡ i
@@ -119,7 +117,7 @@ module _ (p : Profile) (R : ℕ) (st : State) (o : Sorted cmpRow (st .rows)) (r 
 
   rows-without : removeRun i 1 (st .rows) ≡ withoutRow r (st .rows)
   rows-without =
-      remove-one i (st .rows)
+      sym (remove-one i (st .rows))
       ∙ ap (λ (n : ℕ). removeAt n (st .rows)) (sym (rank-nth ordRow (st .rows) i r o at))
       ∙ sym (keep-others ordRow r (st .rows) o (holds-in ordRow r r (st .rows) (nth-in (st .rows) i r at) (self ordRow r)))
 

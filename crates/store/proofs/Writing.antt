@@ -5,7 +5,7 @@ use native.Mathlib.Nat.{add-sub-cancel-left, zero-mul, suc-mul, mul-le-mul, le-r
 use native.Mathlib.Numerals.{add-one}
 use native.Mathlib.Omega.{arith}
 use mathlib.Core.List.{List, [], _∷_, _++_, map, append-assoc, append-nil}
-use lib.ListN.{length, take, drop, set, getD, length-append, length-take, length-drop, length-map, drop-of-length-le, take-append-drop}
+use lib.ListN.{length, take, drop, set, getD, length-append, length-drop, length-map, drop-of-length-le, take-append-drop}
 use lib.Seq.{take-suc, take-at, take-take, getD-take, length-take-le, drop-drop}
 use Rattle.values.proofs.Shifts.{drop-past}
 use borrow.Rule.Slice.PartMut.{putMid}

@@ -1,14 +1,12 @@
 -- The index in a buffer, as it is while a row is added, removed or replaced: laid out and sorted, not yet the one rebuilt from the rows.
 -- Assumes nothing.
-use mathlib.Core.Path.{_≡_}
 use mathlib.Core.Bool.{Bool}
-use Prim.Native.Nat.{ℕ, _+_, _*_, _≤_, _<_}
+use Prim.Native.Nat.{ℕ, _≤_}
 use mathlib.Core.List.{List, _∷_, _++_, map}
 use lib.Dec.{isEq}
-use lib.ListN.{length, drop}
 use Rattle.values.specs.Basic.{isLt, any}
 use Rattle.values.specs.Value.{Value}
-use Rattle.values.specs.Cell.{nameWidth, cellWidth, nameCell, valueCell}
+use Rattle.values.specs.Cell.{cellWidth, nameCell, valueCell}
 use Rattle.values.specs.Records.{joined}
 use Rattle.values.specs.declared.value.Text.{Text}
 use Rattle.values.specs.declared.value.Value as D

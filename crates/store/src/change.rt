@@ -202,3 +202,33 @@ pub fn remove_row(s: &mut [u8], p: Profile, places: usize, t: usize, i: usize)
         1,
     );
 }
+
+// Puts a row with the same key in place of the one at place i of the table at place t.
+pub fn replace_row(s: &mut [u8], p: Profile, places: usize, t: usize, i: usize, row: Row)
+    requires { ⌜ LaidStore p places (now s) × ProperRow row × Replaceable p places (now s) t i (cellsOf row) ⌝ }
+    ensures { λ _. ⌜ now (s .exit) ≡ image p places (apply (replaced (rowIn p places (now (s .entry)) i) (rowOf (tableIn p places (now (s .entry)) t) (cellsOf row))) (parse p places (now (s .entry)))) ⌝ }
+{
+    let name = cell::read_name(layout::table_record(s, p, places, t));
+    let column = schema::key_column(layout::table_record(s, p, places, t));
+    let cells = row.cells;
+    let k = cells[column];
+    let key = k.value;
+    let count = row.count;
+    let mut j = 0;
+    while j < count {
+        let c = schema::read_column(layout::table_record(s, p, places, t), p, j);
+        if c.index {
+            let x = row::cell_in(layout::row_record(s, p, places, i), p, j);
+            let old = x.value;
+            let y = cells[j];
+            let new = y.value;
+            exchange(s, p, places, name, j as u8, old, new, key);
+        }
+        j += 1;
+    }
+    let from = layout::rows_at(p);
+    let width = layout::row_width(p);
+    let a = from + i * width;
+    let e = a + width;
+    write_row(&mut s[a..e], p, name, row);
+}

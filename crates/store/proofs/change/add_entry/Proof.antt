@@ -3,7 +3,7 @@ use mathlib.Core.Path.{refl, ap, _∙_}
 use Prim.Native.Nat.{_+_, _*_, _≤_}
 use native.Mathlib.Omega.{arith}
 use lib.ListN.{length}
-use Rattle.rules.proofs.Widths.{entries-most, store-most}
+use Rattle.rules.proofs.Widths.{entries-most}
 use Rattle.store.specs.Entered.{entryOf}
 use Rattle.store.proofs.Writing.{entry-long}
 use Rattle.store.proofs.Entering.{entry-grows, entry-room, place-wide, entry-placed}

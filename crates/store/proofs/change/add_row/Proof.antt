@@ -1,10 +1,9 @@
 -- `store::change::add_row` meets its contract. Assumes nothing.
-use mathlib.Core.Path.{_≡_, sym, ap, _∙_, subst}
+use mathlib.Core.Path.{sym, ap, _∙_, subst}
 use mathlib.Core.Logic.{⊎-elim}
-use Prim.Native.Nat.{ℕ, _+_, _-_, _*_}
+use Prim.Native.Nat.{_+_, _-_, _*_}
 use native.Mathlib.Omega.{arith}
-use mathlib.Core.List.{List}
-use lib.ListN.{length, getD}
+use lib.ListN.{getD}
 use borrow.Rule.Slice.PartMut.{same-len-mid}
 use Rattle.values.specs.Meaning.{textBytes}
 use Rattle.values.specs.declared.value.Value.the-variants.{Null}
@@ -76,7 +75,7 @@ rank-of-requires c κs =
       b .pre .0,
       added-column (a .p) (a .places) (a .s .now) (b .pre .0) (a .t) (a .row) (b .pre .1) (b .pre .2) (textBytes (n .result)) (k .result) (n .ensures .0 ∙ start-name (a .p) (a .places) (a .s .now) (b .pre .0) (a .t) (b .pre .2 .known) (r1 .result .now) (r1 .ensures)) (k .ensures ∙ start-key (a .p) (a .places) (a .s .now) (b .pre .0) (a .t) (b .pre .2 .known) (r2 .result .now) (r2 .ensures)),
       n .ensures .1,
-      flight-proper (a .p) (a .places) (a .s .now) (b .pre .0) (a .t) (a .row) (b .pre .1) (b .pre .2) (k .result) (omega (arith, k .ensures, start-key (a .p) (a .places) (a .s .now) (b .pre .0) (a .t) (b .pre .2 .known) (r2 .result .now) (r2 .ensures), added-key-below (a .p) (a .places) (a .s .now) (b .pre .0) (a .t) (a .row) (b .pre .1) (b .pre .2))),
+      flight-proper (a .row) (b .pre .1) (k .result) (omega (arith, k .ensures, start-key (a .p) (a .places) (a .s .now) (b .pre .0) (a .t) (b .pre .2 .known) (r2 .result .now) (r2 .ensures), added-key-below (a .p) (a .places) (a .s .now) (b .pre .0) (a .t) (a .row) (b .pre .1) (b .pre .2))),
     )
 
 loop-holds : tie.Need-loop-holds Inv-loop μ-loop
@@ -88,7 +87,7 @@ loop-holds c =
     let r2 = q .before .before .before .before .before .table-record2 in
     let b = q .before .before .before .before .before .before .before .before .before .before .before in
     let a = b .args in
-    add-start (a .p) (a .places) (a .s .now) (a .t) (a .row) (n .result) (getD (a .row .cells) (k .result) (record { value = Null }) .value) (b .pre .0) (b .pre .1) (b .pre .2) (n .ensures .0 ∙ start-name (a .p) (a .places) (a .s .now) (b .pre .0) (a .t) (b .pre .2 .known) (r1 .result .now) (r1 .ensures)) (n .ensures .1) (flight-cell (a .p) (a .places) (a .s .now) (b .pre .0) (a .t) (a .row) (b .pre .1) (b .pre .2) (k .result) (omega (arith, k .ensures, start-key (a .p) (a .places) (a .s .now) (b .pre .0) (a .t) (b .pre .2 .known) (r2 .result .now) (r2 .ensures), added-key-below (a .p) (a .places) (a .s .now) (b .pre .0) (a .t) (a .row) (b .pre .1) (b .pre .2))) ∙ ap (cellAt (cellsOf (a .row))) (k .ensures ∙ start-key (a .p) (a .places) (a .s .now) (b .pre .0) (a .t) (b .pre .2 .known) (r2 .result .now) (r2 .ensures))) (flight-proper (a .p) (a .places) (a .s .now) (b .pre .0) (a .t) (a .row) (b .pre .1) (b .pre .2) (k .result) (omega (arith, k .ensures, start-key (a .p) (a .places) (a .s .now) (b .pre .0) (a .t) (b .pre .2 .known) (r2 .result .now) (r2 .ensures), added-key-below (a .p) (a .places) (a .s .now) (b .pre .0) (a .t) (a .row) (b .pre .1) (b .pre .2))))
+    add-start (a .p) (a .places) (a .s .now) (a .t) (a .row) (n .result) (getD (a .row .cells) (k .result) (record { value = Null }) .value) (b .pre .0) (b .pre .1) (b .pre .2) (n .ensures .0 ∙ start-name (a .p) (a .places) (a .s .now) (b .pre .0) (a .t) (b .pre .2 .known) (r1 .result .now) (r1 .ensures)) (n .ensures .1) (flight-cell (a .row) (b .pre .1) (k .result) (omega (arith, k .ensures, start-key (a .p) (a .places) (a .s .now) (b .pre .0) (a .t) (b .pre .2 .known) (r2 .result .now) (r2 .ensures), added-key-below (a .p) (a .places) (a .s .now) (b .pre .0) (a .t) (a .row) (b .pre .1) (b .pre .2))) ∙ ap (cellAt (cellsOf (a .row))) (k .ensures ∙ start-key (a .p) (a .places) (a .s .now) (b .pre .0) (a .t) (b .pre .2 .known) (r2 .result .now) (r2 .ensures))) (flight-proper (a .row) (b .pre .1) (k .result) (omega (arith, k .ensures, start-key (a .p) (a .places) (a .s .now) (b .pre .0) (a .t) (b .pre .2 .known) (r2 .result .now) (r2 .ensures), added-key-below (a .p) (a .places) (a .s .now) (b .pre .0) (a .t) (a .row) (b .pre .1) (b .pre .2))))
 
 table-record-requires-3 : tie.Need-table-record-requires-3 Inv-loop μ-loop
 table-record-requires-3 c κs =
@@ -164,7 +163,7 @@ add-entry-requires c κs =
     let r = c .before .before .before .before .table-record3 in
     let g = c .before .before .before .read-column in
     add-requires (a .p) (a .places) (a .s .now) (a .t) (a .row) (n .result) (getD (a .row .cells) (k .result) (record { value = Null }) .value) (l .loop .j) (l .loop .s) (l .loop .inv) (c .before .before .before .before .before .before .loop-test .taken) (r .result .now) (r .ensures) (g .result) (g .ensures) (c .before .before .if1 .taken) (getD (a .row .cells) (l .loop .j) (record { value = Null }) .value)
-    (flight-cell (a .p) (a .places) (a .s .now) (b .pre .0) (a .t) (a .row) (b .pre .1) (b .pre .2) (l .loop .j) (c .before .before .before .before .before .before .loop-test .taken)) (flight-proper (a .p) (a .places) (a .s .now) (b .pre .0) (a .t) (a .row) (b .pre .1) (b .pre .2) (l .loop .j) (c .before .before .before .before .before .before .loop-test .taken))
+    (flight-cell (a .row) (b .pre .1) (l .loop .j) (c .before .before .before .before .before .before .loop-test .taken)) (flight-proper (a .row) (b .pre .1) (l .loop .j) (c .before .before .before .before .before .before .loop-test .taken))
 
 add-j : tie.Need-add-j Inv-loop μ-loop
 add-j c = omega arith
@@ -187,7 +186,7 @@ loop-again c =
     ⊎-elim
     (λ w. subst (AddTurn (a .p) (a .places) (a .s .now) (a .t) (a .row) (n .result) (getD (a .row .cells) (k .result) (record { value = Null }) .value) (l .loop .j + 1)) (sym (w .6))
     (add-next (a .p) (a .places) (a .s .now) (a .t) (a .row) (n .result) (getD (a .row .cells) (k .result) (record { value = Null }) .value) (l .loop .j) (l .loop .s) (l .loop .inv) (c .before .before .before .before .loop-test .taken) (r .result .now) (r .ensures) (g .result) (g .ensures) (w .0 .taken) (getD (a .row .cells) (l .loop .j) (record { value = Null }) .value)
-    (flight-cell (a .p) (a .places) (a .s .now) (b .pre .0) (a .t) (a .row) (b .pre .1) (b .pre .2) (l .loop .j) (c .before .before .before .before .loop-test .taken)) (w .3 .last .0) (w .3 .ensures)))
+    (flight-cell (a .row) (b .pre .1) (l .loop .j) (c .before .before .before .before .loop-test .taken)) (w .3 .last .0) (w .3 .ensures)))
     (λ w. subst (AddTurn (a .p) (a .places) (a .s .now) (a .t) (a .row) (n .result) (getD (a .row .cells) (k .result) (record { value = Null }) .value) (l .loop .j + 1)) (sym (w .1))
     (add-past (a .p) (a .places) (a .s .now) (a .t) (a .row) (n .result) (getD (a .row .cells) (k .result) (record { value = Null }) .value) (l .loop .j) (l .loop .s) (l .loop .inv) (c .before .before .before .before .loop-test .taken) (r .result .now) (r .ensures) (g .result) (g .ensures) (w .0 .left)))
     (c .if1 .came)
@@ -217,7 +216,7 @@ open-counted-requires c κs =
     let f = c .before .before .rows-at in
     let w = c .before .row-width in
     let i = q .rank-of in
-    added-grows (a .p) (a .places) (a .s .now) (b .pre .0) (a .t) (a .row) (b .pre .1) (b .pre .2) (l .loop .j) (l .loop .s) (l .loop .inv .adds) (c .before .before .before .loop-test .left) (f .result) (w .result) (i .result) (f .ensures) (w .ensures) (added-rank (a .p) (a .places) (a .s .now) (b .pre .0) (a .t) (a .row) (b .pre .1) (b .pre .2) (n .result) (getD (a .row .cells) (k .result) (record { value = Null }) .value) (n .ensures .0 ∙ start-name (a .p) (a .places) (a .s .now) (b .pre .0) (a .t) (b .pre .2 .known) (r1 .result .now) (r1 .ensures)) (flight-cell (a .p) (a .places) (a .s .now) (b .pre .0) (a .t) (a .row) (b .pre .1) (b .pre .2) (k .result) (omega (arith, k .ensures, start-key (a .p) (a .places) (a .s .now) (b .pre .0) (a .t) (b .pre .2 .known) (r2 .result .now) (r2 .ensures), added-key-below (a .p) (a .places) (a .s .now) (b .pre .0) (a .t) (a .row) (b .pre .1) (b .pre .2))) ∙ ap (cellAt (cellsOf (a .row))) (k .ensures ∙ start-key (a .p) (a .places) (a .s .now) (b .pre .0) (a .t) (b .pre .2 .known) (r2 .result .now) (r2 .ensures))) (i .result) (i .ensures))
+    added-grows (a .p) (a .places) (a .s .now) (b .pre .0) (a .t) (a .row) (b .pre .1) (b .pre .2) (l .loop .j) (l .loop .s) (l .loop .inv .adds) (c .before .before .before .loop-test .left) (f .result) (w .result) (i .result) (f .ensures) (w .ensures) (added-rank (a .p) (a .places) (a .s .now) (b .pre .0) (a .t) (a .row) (b .pre .1) (b .pre .2) (n .result) (getD (a .row .cells) (k .result) (record { value = Null }) .value) (n .ensures .0 ∙ start-name (a .p) (a .places) (a .s .now) (b .pre .0) (a .t) (b .pre .2 .known) (r1 .result .now) (r1 .ensures)) (flight-cell (a .row) (b .pre .1) (k .result) (omega (arith, k .ensures, start-key (a .p) (a .places) (a .s .now) (b .pre .0) (a .t) (b .pre .2 .known) (r2 .result .now) (r2 .ensures), added-key-below (a .p) (a .places) (a .s .now) (b .pre .0) (a .t) (a .row) (b .pre .1) (b .pre .2))) ∙ ap (cellAt (cellsOf (a .row))) (k .ensures ∙ start-key (a .p) (a .places) (a .s .now) (b .pre .0) (a .t) (b .pre .2 .known) (r2 .result .now) (r2 .ensures))) (i .result) (i .ensures))
 
 mul-a : tie.Need-mul-a Inv-loop μ-loop
 mul-a c =
@@ -233,7 +232,7 @@ mul-a c =
     let w = c .before .before .before .before .row-width in
     let i = q .rank-of in
     let o = c .before .before .open-counted in
-    omega (arith, added-room (a .p) (a .places) (a .s .now) (b .pre .0) (a .t) (a .row) (b .pre .1) (b .pre .2) (l .loop .j) (l .loop .s) (l .loop .inv .adds) (c .before .before .before .before .before .before .loop-test .left) (f .result) (w .result) (i .result) (f .ensures) (w .ensures) (added-rank (a .p) (a .places) (a .s .now) (b .pre .0) (a .t) (a .row) (b .pre .1) (b .pre .2) (n .result) (getD (a .row .cells) (k .result) (record { value = Null }) .value) (n .ensures .0 ∙ start-name (a .p) (a .places) (a .s .now) (b .pre .0) (a .t) (b .pre .2 .known) (r1 .result .now) (r1 .ensures)) (flight-cell (a .p) (a .places) (a .s .now) (b .pre .0) (a .t) (a .row) (b .pre .1) (b .pre .2) (k .result) (omega (arith, k .ensures, start-key (a .p) (a .places) (a .s .now) (b .pre .0) (a .t) (b .pre .2 .known) (r2 .result .now) (r2 .ensures), added-key-below (a .p) (a .places) (a .s .now) (b .pre .0) (a .t) (a .row) (b .pre .1) (b .pre .2))) ∙ ap (cellAt (cellsOf (a .row))) (k .ensures ∙ start-key (a .p) (a .places) (a .s .now) (b .pre .0) (a .t) (b .pre .2 .known) (r2 .result .now) (r2 .ensures))) (i .result) (i .ensures)) (o .last .0) (o .ensures), added-length (a .p) (a .places) (a .s .now) (b .pre .0) (a .t) (a .row) (b .pre .1) (b .pre .2) (l .loop .j) (l .loop .s) (l .loop .inv .adds) (c .before .before .before .before .before .before .loop-test .left) (f .result) (w .result) (i .result) (f .ensures) (w .ensures) (added-rank (a .p) (a .places) (a .s .now) (b .pre .0) (a .t) (a .row) (b .pre .1) (b .pre .2) (n .result) (getD (a .row .cells) (k .result) (record { value = Null }) .value) (n .ensures .0 ∙ start-name (a .p) (a .places) (a .s .now) (b .pre .0) (a .t) (b .pre .2 .known) (r1 .result .now) (r1 .ensures)) (flight-cell (a .p) (a .places) (a .s .now) (b .pre .0) (a .t) (a .row) (b .pre .1) (b .pre .2) (k .result) (omega (arith, k .ensures, start-key (a .p) (a .places) (a .s .now) (b .pre .0) (a .t) (b .pre .2 .known) (r2 .result .now) (r2 .ensures), added-key-below (a .p) (a .places) (a .s .now) (b .pre .0) (a .t) (a .row) (b .pre .1) (b .pre .2))) ∙ ap (cellAt (cellsOf (a .row))) (k .ensures ∙ start-key (a .p) (a .places) (a .s .now) (b .pre .0) (a .t) (b .pre .2 .known) (r2 .result .now) (r2 .ensures))) (i .result) (i .ensures)) (o .last .0) (o .ensures), held-inside (a .p) (a .places) (a .s .now) (b .pre .0) .long, store-most (a .p) (b .pre .0 .coded .known) (a .places) (b .pre .0 .places))
+    omega (arith, added-room (a .p) (a .places) (a .s .now) (b .pre .0) (a .t) (a .row) (b .pre .1) (b .pre .2) (l .loop .j) (l .loop .s) (l .loop .inv .adds) (c .before .before .before .before .before .before .loop-test .left) (f .result) (w .result) (i .result) (f .ensures) (w .ensures) (added-rank (a .p) (a .places) (a .s .now) (b .pre .0) (a .t) (a .row) (b .pre .1) (b .pre .2) (n .result) (getD (a .row .cells) (k .result) (record { value = Null }) .value) (n .ensures .0 ∙ start-name (a .p) (a .places) (a .s .now) (b .pre .0) (a .t) (b .pre .2 .known) (r1 .result .now) (r1 .ensures)) (flight-cell (a .row) (b .pre .1) (k .result) (omega (arith, k .ensures, start-key (a .p) (a .places) (a .s .now) (b .pre .0) (a .t) (b .pre .2 .known) (r2 .result .now) (r2 .ensures), added-key-below (a .p) (a .places) (a .s .now) (b .pre .0) (a .t) (a .row) (b .pre .1) (b .pre .2))) ∙ ap (cellAt (cellsOf (a .row))) (k .ensures ∙ start-key (a .p) (a .places) (a .s .now) (b .pre .0) (a .t) (b .pre .2 .known) (r2 .result .now) (r2 .ensures))) (i .result) (i .ensures)) (o .last .0) (o .ensures), added-length (a .p) (a .places) (a .s .now) (b .pre .0) (a .t) (a .row) (b .pre .1) (b .pre .2) (l .loop .j) (l .loop .s) (l .loop .inv .adds) (c .before .before .before .before .before .before .loop-test .left) (f .result) (w .result) (i .result) (f .ensures) (w .ensures) (added-rank (a .p) (a .places) (a .s .now) (b .pre .0) (a .t) (a .row) (b .pre .1) (b .pre .2) (n .result) (getD (a .row .cells) (k .result) (record { value = Null }) .value) (n .ensures .0 ∙ start-name (a .p) (a .places) (a .s .now) (b .pre .0) (a .t) (b .pre .2 .known) (r1 .result .now) (r1 .ensures)) (flight-cell (a .row) (b .pre .1) (k .result) (omega (arith, k .ensures, start-key (a .p) (a .places) (a .s .now) (b .pre .0) (a .t) (b .pre .2 .known) (r2 .result .now) (r2 .ensures), added-key-below (a .p) (a .places) (a .s .now) (b .pre .0) (a .t) (a .row) (b .pre .1) (b .pre .2))) ∙ ap (cellAt (cellsOf (a .row))) (k .ensures ∙ start-key (a .p) (a .places) (a .s .now) (b .pre .0) (a .t) (b .pre .2 .known) (r2 .result .now) (r2 .ensures))) (i .result) (i .ensures)) (o .last .0) (o .ensures), held-inside (a .p) (a .places) (a .s .now) (b .pre .0) .long, store-most (a .p) (b .pre .0 .coded .known) (a .places) (b .pre .0 .places))
 
 add-a : tie.Need-add-a Inv-loop μ-loop
 add-a c =
@@ -249,7 +248,7 @@ add-a c =
     let w = c .before .before .before .before .row-width in
     let i = q .rank-of in
     let o = c .before .before .open-counted in
-    omega (arith, added-room (a .p) (a .places) (a .s .now) (b .pre .0) (a .t) (a .row) (b .pre .1) (b .pre .2) (l .loop .j) (l .loop .s) (l .loop .inv .adds) (c .before .before .before .before .before .before .loop-test .left) (f .result) (w .result) (i .result) (f .ensures) (w .ensures) (added-rank (a .p) (a .places) (a .s .now) (b .pre .0) (a .t) (a .row) (b .pre .1) (b .pre .2) (n .result) (getD (a .row .cells) (k .result) (record { value = Null }) .value) (n .ensures .0 ∙ start-name (a .p) (a .places) (a .s .now) (b .pre .0) (a .t) (b .pre .2 .known) (r1 .result .now) (r1 .ensures)) (flight-cell (a .p) (a .places) (a .s .now) (b .pre .0) (a .t) (a .row) (b .pre .1) (b .pre .2) (k .result) (omega (arith, k .ensures, start-key (a .p) (a .places) (a .s .now) (b .pre .0) (a .t) (b .pre .2 .known) (r2 .result .now) (r2 .ensures), added-key-below (a .p) (a .places) (a .s .now) (b .pre .0) (a .t) (a .row) (b .pre .1) (b .pre .2))) ∙ ap (cellAt (cellsOf (a .row))) (k .ensures ∙ start-key (a .p) (a .places) (a .s .now) (b .pre .0) (a .t) (b .pre .2 .known) (r2 .result .now) (r2 .ensures))) (i .result) (i .ensures)) (o .last .0) (o .ensures), added-length (a .p) (a .places) (a .s .now) (b .pre .0) (a .t) (a .row) (b .pre .1) (b .pre .2) (l .loop .j) (l .loop .s) (l .loop .inv .adds) (c .before .before .before .before .before .before .loop-test .left) (f .result) (w .result) (i .result) (f .ensures) (w .ensures) (added-rank (a .p) (a .places) (a .s .now) (b .pre .0) (a .t) (a .row) (b .pre .1) (b .pre .2) (n .result) (getD (a .row .cells) (k .result) (record { value = Null }) .value) (n .ensures .0 ∙ start-name (a .p) (a .places) (a .s .now) (b .pre .0) (a .t) (b .pre .2 .known) (r1 .result .now) (r1 .ensures)) (flight-cell (a .p) (a .places) (a .s .now) (b .pre .0) (a .t) (a .row) (b .pre .1) (b .pre .2) (k .result) (omega (arith, k .ensures, start-key (a .p) (a .places) (a .s .now) (b .pre .0) (a .t) (b .pre .2 .known) (r2 .result .now) (r2 .ensures), added-key-below (a .p) (a .places) (a .s .now) (b .pre .0) (a .t) (a .row) (b .pre .1) (b .pre .2))) ∙ ap (cellAt (cellsOf (a .row))) (k .ensures ∙ start-key (a .p) (a .places) (a .s .now) (b .pre .0) (a .t) (b .pre .2 .known) (r2 .result .now) (r2 .ensures))) (i .result) (i .ensures)) (o .last .0) (o .ensures), held-inside (a .p) (a .places) (a .s .now) (b .pre .0) .long, store-most (a .p) (b .pre .0 .coded .known) (a .places) (b .pre .0 .places))
+    omega (arith, added-room (a .p) (a .places) (a .s .now) (b .pre .0) (a .t) (a .row) (b .pre .1) (b .pre .2) (l .loop .j) (l .loop .s) (l .loop .inv .adds) (c .before .before .before .before .before .before .loop-test .left) (f .result) (w .result) (i .result) (f .ensures) (w .ensures) (added-rank (a .p) (a .places) (a .s .now) (b .pre .0) (a .t) (a .row) (b .pre .1) (b .pre .2) (n .result) (getD (a .row .cells) (k .result) (record { value = Null }) .value) (n .ensures .0 ∙ start-name (a .p) (a .places) (a .s .now) (b .pre .0) (a .t) (b .pre .2 .known) (r1 .result .now) (r1 .ensures)) (flight-cell (a .row) (b .pre .1) (k .result) (omega (arith, k .ensures, start-key (a .p) (a .places) (a .s .now) (b .pre .0) (a .t) (b .pre .2 .known) (r2 .result .now) (r2 .ensures), added-key-below (a .p) (a .places) (a .s .now) (b .pre .0) (a .t) (a .row) (b .pre .1) (b .pre .2))) ∙ ap (cellAt (cellsOf (a .row))) (k .ensures ∙ start-key (a .p) (a .places) (a .s .now) (b .pre .0) (a .t) (b .pre .2 .known) (r2 .result .now) (r2 .ensures))) (i .result) (i .ensures)) (o .last .0) (o .ensures), added-length (a .p) (a .places) (a .s .now) (b .pre .0) (a .t) (a .row) (b .pre .1) (b .pre .2) (l .loop .j) (l .loop .s) (l .loop .inv .adds) (c .before .before .before .before .before .before .loop-test .left) (f .result) (w .result) (i .result) (f .ensures) (w .ensures) (added-rank (a .p) (a .places) (a .s .now) (b .pre .0) (a .t) (a .row) (b .pre .1) (b .pre .2) (n .result) (getD (a .row .cells) (k .result) (record { value = Null }) .value) (n .ensures .0 ∙ start-name (a .p) (a .places) (a .s .now) (b .pre .0) (a .t) (b .pre .2 .known) (r1 .result .now) (r1 .ensures)) (flight-cell (a .row) (b .pre .1) (k .result) (omega (arith, k .ensures, start-key (a .p) (a .places) (a .s .now) (b .pre .0) (a .t) (b .pre .2 .known) (r2 .result .now) (r2 .ensures), added-key-below (a .p) (a .places) (a .s .now) (b .pre .0) (a .t) (a .row) (b .pre .1) (b .pre .2))) ∙ ap (cellAt (cellsOf (a .row))) (k .ensures ∙ start-key (a .p) (a .places) (a .s .now) (b .pre .0) (a .t) (b .pre .2 .known) (r2 .result .now) (r2 .ensures))) (i .result) (i .ensures)) (o .last .0) (o .ensures), held-inside (a .p) (a .places) (a .s .now) (b .pre .0) .long, store-most (a .p) (b .pre .0 .coded .known) (a .places) (b .pre .0 .places))
 
 add-e : tie.Need-add-e Inv-loop μ-loop
 add-e c =
@@ -265,7 +264,7 @@ add-e c =
     let w = c .before .before .before .before .row-width in
     let i = q .rank-of in
     let o = c .before .before .open-counted in
-    omega (arith, added-room (a .p) (a .places) (a .s .now) (b .pre .0) (a .t) (a .row) (b .pre .1) (b .pre .2) (l .loop .j) (l .loop .s) (l .loop .inv .adds) (c .before .before .before .before .before .before .loop-test .left) (f .result) (w .result) (i .result) (f .ensures) (w .ensures) (added-rank (a .p) (a .places) (a .s .now) (b .pre .0) (a .t) (a .row) (b .pre .1) (b .pre .2) (n .result) (getD (a .row .cells) (k .result) (record { value = Null }) .value) (n .ensures .0 ∙ start-name (a .p) (a .places) (a .s .now) (b .pre .0) (a .t) (b .pre .2 .known) (r1 .result .now) (r1 .ensures)) (flight-cell (a .p) (a .places) (a .s .now) (b .pre .0) (a .t) (a .row) (b .pre .1) (b .pre .2) (k .result) (omega (arith, k .ensures, start-key (a .p) (a .places) (a .s .now) (b .pre .0) (a .t) (b .pre .2 .known) (r2 .result .now) (r2 .ensures), added-key-below (a .p) (a .places) (a .s .now) (b .pre .0) (a .t) (a .row) (b .pre .1) (b .pre .2))) ∙ ap (cellAt (cellsOf (a .row))) (k .ensures ∙ start-key (a .p) (a .places) (a .s .now) (b .pre .0) (a .t) (b .pre .2 .known) (r2 .result .now) (r2 .ensures))) (i .result) (i .ensures)) (o .last .0) (o .ensures), added-length (a .p) (a .places) (a .s .now) (b .pre .0) (a .t) (a .row) (b .pre .1) (b .pre .2) (l .loop .j) (l .loop .s) (l .loop .inv .adds) (c .before .before .before .before .before .before .loop-test .left) (f .result) (w .result) (i .result) (f .ensures) (w .ensures) (added-rank (a .p) (a .places) (a .s .now) (b .pre .0) (a .t) (a .row) (b .pre .1) (b .pre .2) (n .result) (getD (a .row .cells) (k .result) (record { value = Null }) .value) (n .ensures .0 ∙ start-name (a .p) (a .places) (a .s .now) (b .pre .0) (a .t) (b .pre .2 .known) (r1 .result .now) (r1 .ensures)) (flight-cell (a .p) (a .places) (a .s .now) (b .pre .0) (a .t) (a .row) (b .pre .1) (b .pre .2) (k .result) (omega (arith, k .ensures, start-key (a .p) (a .places) (a .s .now) (b .pre .0) (a .t) (b .pre .2 .known) (r2 .result .now) (r2 .ensures), added-key-below (a .p) (a .places) (a .s .now) (b .pre .0) (a .t) (a .row) (b .pre .1) (b .pre .2))) ∙ ap (cellAt (cellsOf (a .row))) (k .ensures ∙ start-key (a .p) (a .places) (a .s .now) (b .pre .0) (a .t) (b .pre .2 .known) (r2 .result .now) (r2 .ensures))) (i .result) (i .ensures)) (o .last .0) (o .ensures), held-inside (a .p) (a .places) (a .s .now) (b .pre .0) .long, store-most (a .p) (b .pre .0 .coded .known) (a .places) (b .pre .0 .places))
+    omega (arith, added-room (a .p) (a .places) (a .s .now) (b .pre .0) (a .t) (a .row) (b .pre .1) (b .pre .2) (l .loop .j) (l .loop .s) (l .loop .inv .adds) (c .before .before .before .before .before .before .loop-test .left) (f .result) (w .result) (i .result) (f .ensures) (w .ensures) (added-rank (a .p) (a .places) (a .s .now) (b .pre .0) (a .t) (a .row) (b .pre .1) (b .pre .2) (n .result) (getD (a .row .cells) (k .result) (record { value = Null }) .value) (n .ensures .0 ∙ start-name (a .p) (a .places) (a .s .now) (b .pre .0) (a .t) (b .pre .2 .known) (r1 .result .now) (r1 .ensures)) (flight-cell (a .row) (b .pre .1) (k .result) (omega (arith, k .ensures, start-key (a .p) (a .places) (a .s .now) (b .pre .0) (a .t) (b .pre .2 .known) (r2 .result .now) (r2 .ensures), added-key-below (a .p) (a .places) (a .s .now) (b .pre .0) (a .t) (a .row) (b .pre .1) (b .pre .2))) ∙ ap (cellAt (cellsOf (a .row))) (k .ensures ∙ start-key (a .p) (a .places) (a .s .now) (b .pre .0) (a .t) (b .pre .2 .known) (r2 .result .now) (r2 .ensures))) (i .result) (i .ensures)) (o .last .0) (o .ensures), added-length (a .p) (a .places) (a .s .now) (b .pre .0) (a .t) (a .row) (b .pre .1) (b .pre .2) (l .loop .j) (l .loop .s) (l .loop .inv .adds) (c .before .before .before .before .before .before .loop-test .left) (f .result) (w .result) (i .result) (f .ensures) (w .ensures) (added-rank (a .p) (a .places) (a .s .now) (b .pre .0) (a .t) (a .row) (b .pre .1) (b .pre .2) (n .result) (getD (a .row .cells) (k .result) (record { value = Null }) .value) (n .ensures .0 ∙ start-name (a .p) (a .places) (a .s .now) (b .pre .0) (a .t) (b .pre .2 .known) (r1 .result .now) (r1 .ensures)) (flight-cell (a .row) (b .pre .1) (k .result) (omega (arith, k .ensures, start-key (a .p) (a .places) (a .s .now) (b .pre .0) (a .t) (b .pre .2 .known) (r2 .result .now) (r2 .ensures), added-key-below (a .p) (a .places) (a .s .now) (b .pre .0) (a .t) (a .row) (b .pre .1) (b .pre .2))) ∙ ap (cellAt (cellsOf (a .row))) (k .ensures ∙ start-key (a .p) (a .places) (a .s .now) (b .pre .0) (a .t) (b .pre .2 .known) (r2 .result .now) (r2 .ensures))) (i .result) (i .ensures)) (o .last .0) (o .ensures), held-inside (a .p) (a .places) (a .s .now) (b .pre .0) .long, store-most (a .p) (b .pre .0 .coded .known) (a .places) (b .pre .0 .places))
 
 sub-write-row : tie.Need-sub-write-row Inv-loop μ-loop
 sub-write-row c = omega arith
@@ -287,7 +286,7 @@ part-write-row-end c =
     let w = c .before .before .before .before .row-width in
     let i = q .rank-of in
     let o = c .before .before .open-counted in
-    omega (arith, added-room (a .p) (a .places) (a .s .now) (b .pre .0) (a .t) (a .row) (b .pre .1) (b .pre .2) (l .loop .j) (l .loop .s) (l .loop .inv .adds) (c .before .before .before .before .before .before .loop-test .left) (f .result) (w .result) (i .result) (f .ensures) (w .ensures) (added-rank (a .p) (a .places) (a .s .now) (b .pre .0) (a .t) (a .row) (b .pre .1) (b .pre .2) (n .result) (getD (a .row .cells) (k .result) (record { value = Null }) .value) (n .ensures .0 ∙ start-name (a .p) (a .places) (a .s .now) (b .pre .0) (a .t) (b .pre .2 .known) (r1 .result .now) (r1 .ensures)) (flight-cell (a .p) (a .places) (a .s .now) (b .pre .0) (a .t) (a .row) (b .pre .1) (b .pre .2) (k .result) (omega (arith, k .ensures, start-key (a .p) (a .places) (a .s .now) (b .pre .0) (a .t) (b .pre .2 .known) (r2 .result .now) (r2 .ensures), added-key-below (a .p) (a .places) (a .s .now) (b .pre .0) (a .t) (a .row) (b .pre .1) (b .pre .2))) ∙ ap (cellAt (cellsOf (a .row))) (k .ensures ∙ start-key (a .p) (a .places) (a .s .now) (b .pre .0) (a .t) (b .pre .2 .known) (r2 .result .now) (r2 .ensures))) (i .result) (i .ensures)) (o .last .0) (o .ensures))
+    omega (arith, added-room (a .p) (a .places) (a .s .now) (b .pre .0) (a .t) (a .row) (b .pre .1) (b .pre .2) (l .loop .j) (l .loop .s) (l .loop .inv .adds) (c .before .before .before .before .before .before .loop-test .left) (f .result) (w .result) (i .result) (f .ensures) (w .ensures) (added-rank (a .p) (a .places) (a .s .now) (b .pre .0) (a .t) (a .row) (b .pre .1) (b .pre .2) (n .result) (getD (a .row .cells) (k .result) (record { value = Null }) .value) (n .ensures .0 ∙ start-name (a .p) (a .places) (a .s .now) (b .pre .0) (a .t) (b .pre .2 .known) (r1 .result .now) (r1 .ensures)) (flight-cell (a .row) (b .pre .1) (k .result) (omega (arith, k .ensures, start-key (a .p) (a .places) (a .s .now) (b .pre .0) (a .t) (b .pre .2 .known) (r2 .result .now) (r2 .ensures), added-key-below (a .p) (a .places) (a .s .now) (b .pre .0) (a .t) (a .row) (b .pre .1) (b .pre .2))) ∙ ap (cellAt (cellsOf (a .row))) (k .ensures ∙ start-key (a .p) (a .places) (a .s .now) (b .pre .0) (a .t) (b .pre .2 .known) (r2 .result .now) (r2 .ensures))) (i .result) (i .ensures)) (o .last .0) (o .ensures))
 
 write-row-requires : tie.Need-write-row-requires Inv-loop μ-loop
 write-row-requires c κs =
@@ -303,7 +302,7 @@ write-row-requires c κs =
     let w = c .before .before .before .before .before .row-width in
     let i = q .rank-of in
     let o = c .before .before .before .open-counted in
-    (b .pre .0 .coded, added-part (a .p) (a .places) (a .s .now) (b .pre .0) (a .t) (a .row) (b .pre .1) (b .pre .2) (l .loop .j) (l .loop .s) (l .loop .inv .adds) (c .before .before .before .before .before .before .before .loop-test .left) (f .result) (w .result) (i .result) (f .ensures) (w .ensures) (added-rank (a .p) (a .places) (a .s .now) (b .pre .0) (a .t) (a .row) (b .pre .1) (b .pre .2) (n .result) (getD (a .row .cells) (k .result) (record { value = Null }) .value) (n .ensures .0 ∙ start-name (a .p) (a .places) (a .s .now) (b .pre .0) (a .t) (b .pre .2 .known) (r1 .result .now) (r1 .ensures)) (flight-cell (a .p) (a .places) (a .s .now) (b .pre .0) (a .t) (a .row) (b .pre .1) (b .pre .2) (k .result) (omega (arith, k .ensures, start-key (a .p) (a .places) (a .s .now) (b .pre .0) (a .t) (b .pre .2 .known) (r2 .result .now) (r2 .ensures), added-key-below (a .p) (a .places) (a .s .now) (b .pre .0) (a .t) (a .row) (b .pre .1) (b .pre .2))) ∙ ap (cellAt (cellsOf (a .row))) (k .ensures ∙ start-key (a .p) (a .places) (a .s .now) (b .pre .0) (a .t) (b .pre .2 .known) (r2 .result .now) (r2 .ensures))) (i .result) (i .ensures)) (o .last .0) (o .ensures), n .ensures .1, b .pre .1, omega (arith, l .loop .inv .facts .full, l .loop .inv .facts .good-row .few))
+    (b .pre .0 .coded, added-part (a .p) (a .places) (a .s .now) (b .pre .0) (a .t) (a .row) (b .pre .1) (b .pre .2) (l .loop .j) (l .loop .s) (l .loop .inv .adds) (c .before .before .before .before .before .before .before .loop-test .left) (f .result) (w .result) (i .result) (f .ensures) (w .ensures) (added-rank (a .p) (a .places) (a .s .now) (b .pre .0) (a .t) (a .row) (b .pre .1) (b .pre .2) (n .result) (getD (a .row .cells) (k .result) (record { value = Null }) .value) (n .ensures .0 ∙ start-name (a .p) (a .places) (a .s .now) (b .pre .0) (a .t) (b .pre .2 .known) (r1 .result .now) (r1 .ensures)) (flight-cell (a .row) (b .pre .1) (k .result) (omega (arith, k .ensures, start-key (a .p) (a .places) (a .s .now) (b .pre .0) (a .t) (b .pre .2 .known) (r2 .result .now) (r2 .ensures), added-key-below (a .p) (a .places) (a .s .now) (b .pre .0) (a .t) (a .row) (b .pre .1) (b .pre .2))) ∙ ap (cellAt (cellsOf (a .row))) (k .ensures ∙ start-key (a .p) (a .places) (a .s .now) (b .pre .0) (a .t) (b .pre .2 .known) (r2 .result .now) (r2 .ensures))) (i .result) (i .ensures)) (o .last .0) (o .ensures), n .ensures .1, b .pre .1, omega (arith, l .loop .inv .facts .full, l .loop .inv .facts .good-row .few))
 
 same-length : tie.Need-same-length Inv-loop μ-loop
 same-length c =
@@ -321,7 +320,7 @@ same-length c =
     let o = c .before .before .before .before .before .before .open-counted in
     let y = c .before .before .write-row in
     same-len-mid (f .result + i .result * w .result) (f .result + i .result * w .result + w .result - (f .result + i .result * w .result)) (o .last .0) (y .last .0) (y .kept .0)
-    ∙ added-length (a .p) (a .places) (a .s .now) (b .pre .0) (a .t) (a .row) (b .pre .1) (b .pre .2) (l .loop .j) (l .loop .s) (l .loop .inv .adds) (c .before .before .before .before .before .before .before .before .before .before .loop-test .left) (f .result) (w .result) (i .result) (f .ensures) (w .ensures) (added-rank (a .p) (a .places) (a .s .now) (b .pre .0) (a .t) (a .row) (b .pre .1) (b .pre .2) (n .result) (getD (a .row .cells) (k .result) (record { value = Null }) .value) (n .ensures .0 ∙ start-name (a .p) (a .places) (a .s .now) (b .pre .0) (a .t) (b .pre .2 .known) (r1 .result .now) (r1 .ensures)) (flight-cell (a .p) (a .places) (a .s .now) (b .pre .0) (a .t) (a .row) (b .pre .1) (b .pre .2) (k .result) (omega (arith, k .ensures, start-key (a .p) (a .places) (a .s .now) (b .pre .0) (a .t) (b .pre .2 .known) (r2 .result .now) (r2 .ensures), added-key-below (a .p) (a .places) (a .s .now) (b .pre .0) (a .t) (a .row) (b .pre .1) (b .pre .2))) ∙ ap (cellAt (cellsOf (a .row))) (k .ensures ∙ start-key (a .p) (a .places) (a .s .now) (b .pre .0) (a .t) (b .pre .2 .known) (r2 .result .now) (r2 .ensures))) (i .result) (i .ensures)) (o .last .0) (o .ensures)
+    ∙ added-length (a .p) (a .places) (a .s .now) (b .pre .0) (a .t) (a .row) (b .pre .1) (b .pre .2) (l .loop .j) (l .loop .s) (l .loop .inv .adds) (c .before .before .before .before .before .before .before .before .before .before .loop-test .left) (f .result) (w .result) (i .result) (f .ensures) (w .ensures) (added-rank (a .p) (a .places) (a .s .now) (b .pre .0) (a .t) (a .row) (b .pre .1) (b .pre .2) (n .result) (getD (a .row .cells) (k .result) (record { value = Null }) .value) (n .ensures .0 ∙ start-name (a .p) (a .places) (a .s .now) (b .pre .0) (a .t) (b .pre .2 .known) (r1 .result .now) (r1 .ensures)) (flight-cell (a .row) (b .pre .1) (k .result) (omega (arith, k .ensures, start-key (a .p) (a .places) (a .s .now) (b .pre .0) (a .t) (b .pre .2 .known) (r2 .result .now) (r2 .ensures), added-key-below (a .p) (a .places) (a .s .now) (b .pre .0) (a .t) (a .row) (b .pre .1) (b .pre .2))) ∙ ap (cellAt (cellsOf (a .row))) (k .ensures ∙ start-key (a .p) (a .places) (a .s .now) (b .pre .0) (a .t) (b .pre .2 .known) (r2 .result .now) (r2 .ensures))) (i .result) (i .ensures)) (o .last .0) (o .ensures)
 
 returns : tie.Need-returns Inv-loop μ-loop
 returns c =
@@ -338,7 +337,7 @@ returns c =
     let i = q .rank-of in
     let o = c .before .before .before .before .before .before .open-counted in
     let y = c .before .before .write-row in
-    added-done (a .p) (a .places) (a .s .now) (b .pre .0) (a .t) (a .row) (b .pre .1) (b .pre .2) (l .loop .j) (l .loop .s) (l .loop .inv .adds) (c .before .before .before .before .before .before .before .before .before .before .loop-test .left) (f .result) (w .result) (i .result) (f .ensures) (w .ensures) (added-rank (a .p) (a .places) (a .s .now) (b .pre .0) (a .t) (a .row) (b .pre .1) (b .pre .2) (n .result) (getD (a .row .cells) (k .result) (record { value = Null }) .value) (n .ensures .0 ∙ start-name (a .p) (a .places) (a .s .now) (b .pre .0) (a .t) (b .pre .2 .known) (r1 .result .now) (r1 .ensures)) (flight-cell (a .p) (a .places) (a .s .now) (b .pre .0) (a .t) (a .row) (b .pre .1) (b .pre .2) (k .result) (omega (arith, k .ensures, start-key (a .p) (a .places) (a .s .now) (b .pre .0) (a .t) (b .pre .2 .known) (r2 .result .now) (r2 .ensures), added-key-below (a .p) (a .places) (a .s .now) (b .pre .0) (a .t) (a .row) (b .pre .1) (b .pre .2))) ∙ ap (cellAt (cellsOf (a .row))) (k .ensures ∙ start-key (a .p) (a .places) (a .s .now) (b .pre .0) (a .t) (b .pre .2 .known) (r2 .result .now) (r2 .ensures))) (i .result) (i .ensures)) (o .last .0) (o .ensures) (textBytes (n .result)) (y .last .0) (n .ensures .0 ∙ start-name (a .p) (a .places) (a .s .now) (b .pre .0) (a .t) (b .pre .2 .known) (r1 .result .now) (r1 .ensures)) (y .ensures)
+    added-done (a .p) (a .places) (a .s .now) (b .pre .0) (a .t) (a .row) (b .pre .1) (b .pre .2) (l .loop .j) (l .loop .s) (l .loop .inv .adds) (c .before .before .before .before .before .before .before .before .before .before .loop-test .left) (f .result) (w .result) (i .result) (f .ensures) (w .ensures) (added-rank (a .p) (a .places) (a .s .now) (b .pre .0) (a .t) (a .row) (b .pre .1) (b .pre .2) (n .result) (getD (a .row .cells) (k .result) (record { value = Null }) .value) (n .ensures .0 ∙ start-name (a .p) (a .places) (a .s .now) (b .pre .0) (a .t) (b .pre .2 .known) (r1 .result .now) (r1 .ensures)) (flight-cell (a .row) (b .pre .1) (k .result) (omega (arith, k .ensures, start-key (a .p) (a .places) (a .s .now) (b .pre .0) (a .t) (b .pre .2 .known) (r2 .result .now) (r2 .ensures), added-key-below (a .p) (a .places) (a .s .now) (b .pre .0) (a .t) (a .row) (b .pre .1) (b .pre .2))) ∙ ap (cellAt (cellsOf (a .row))) (k .ensures ∙ start-key (a .p) (a .places) (a .s .now) (b .pre .0) (a .t) (b .pre .2 .known) (r2 .result .now) (r2 .ensures))) (i .result) (i .ensures)) (o .last .0) (o .ensures) (textBytes (n .result)) (y .last .0) (n .ensures .0 ∙ start-name (a .p) (a .places) (a .s .now) (b .pre .0) (a .t) (b .pre .2 .known) (r1 .result .now) (r1 .ensures)) (y .ensures)
 
 pub add-row-spec : {M : Type 1} → statement M
 add-row-spec =

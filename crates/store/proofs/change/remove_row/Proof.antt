@@ -1,10 +1,8 @@
 -- `store::change::remove_row` meets its contract. Assumes nothing.
-use mathlib.Core.Path.{_≡_, sym, ap, _∙_, subst}
+use mathlib.Core.Path.{sym, ap, _∙_, subst}
 use mathlib.Core.Logic.{⊎-elim}
-use Prim.Native.Nat.{ℕ, _+_, _-_}
+use Prim.Native.Nat.{_+_, _-_}
 use native.Mathlib.Omega.{arith}
-use mathlib.Core.List.{List}
-use lib.ListN.{length}
 use Rattle.rules.specs.State.{cellAt}
 use Rattle.store.specs.Row.{rowIn}
 use Rattle.store.proofs.Stores.{held-inside}
