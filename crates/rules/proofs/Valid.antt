@@ -59,7 +59,7 @@ pub record Valid (p : Profile) (R : ℕ) (s : State) : Type 0 where
   pub rows : (r : Row) → In r (s .rows) → ValidRow (s .tables) (s .rows) r
 
 -- a valid state is laid out
-pub valid-laid : {p : Profile} {R : ℕ} {s : State} → Valid p R s → LaidState p R s
+abbrev pub valid-laid : {p : Profile} {R : ℕ} {s : State} → Valid p R s → LaidState p R s
 valid-laid v =
     record {
       few-tables = v .few-tables;

@@ -5,3 +5,5 @@ pub mod Faults
 pub mod Row
 pub mod Entered
 pub mod Asked
+pub mod Fresh
+pub mod Tested

@@ -5,3 +5,4 @@ pub mod local; // local.rs: the catalog
 pub mod row; // rows by place
 pub mod change; // a row added, replaced, removed
 pub mod check; // schema.rs: what is wrong with a row
+pub mod sound; // a fresh store, and the test of any bytes
