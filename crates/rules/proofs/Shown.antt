@@ -50,7 +50,7 @@ module _ (p : Profile) (R : ℕ) (s : State) (ok : Valid p R s) (n : Name) (e : 
 
 -- ---- keys in the order of rows
 
-keys-rise : (a b : Row) → a .table ≡ b .table → cmpRow a b ≡ lt → cmpValue (a .key) (b .key) ≡ lt
+pub keys-rise : (a b : Row) → a .table ≡ b .table → cmpRow a b ≡ lt → cmpValue (a .key) (b .key) ≡ lt
 unfolding cmpRow
 keys-rise a b e l = let t : cmpBytes (a .table) (b .table) ≡ eq = ap (cmpBytes (a .table)) (sym e) ∙ self ordBytes (a .table) in rw t at l
 

@@ -5,7 +5,8 @@ ghost use mathlib.Core.Path.{_≡_};
 ghost use lib.Dec.{eqb};
 ghost use Rattle.values.specs.Meaning.{textBytes, meaning};
 ghost use Rattle.rules.specs.Refusal.{numberOf};
-ghost use Rattle.rules.specs.Request.{said, bare, ok, no, carriedBy, noCarrying};
+ghost use Rattle.rules.specs.Request.{said, bare, ok, no, carriedBy, noCarrying, withGone};
+ghost use Rattle.rules.specs.Step.{atPlace};
 
 pub enum Refusal {
     Accepted,
@@ -158,6 +159,42 @@ pub fn carrying(kind: Refusal, table: Text, column: usize, key: Value) -> Answer
         gone: false,
         table,
         column,
+        key,
+    }
+}
+
+// The same answer with GONE.
+pub fn with_gone(a: Answer, gone: bool) -> Answer
+    ensures { λ r. ⌜ said r ≡ withGone gone (said a) ⌝ }
+{
+    let kind = a.kind;
+    let table = a.table;
+    let key = a.key;
+    Answer {
+        kind,
+        count: a.count,
+        at: a.at,
+        gone,
+        table,
+        column: a.column,
+        key,
+    }
+}
+
+// The same answer at the number of a row or pair.
+pub fn at_place(a: Answer, at: usize) -> Answer
+    ensures { λ r. ⌜ said r ≡ atPlace at (said a) ⌝ }
+{
+    let kind = a.kind;
+    let table = a.table;
+    let key = a.key;
+    Answer {
+        kind,
+        count: a.count,
+        at,
+        gone: a.gone,
+        table,
+        column: a.column,
         key,
     }
 }

@@ -27,7 +27,7 @@ use Rattle.store.specs.Store.{Coded}
 use Rattle.store.specs.Catalog.{before, withoutRun, RunIn, RunOut}
 use Rattle.store.proofs.Runs.{run-falls, run-at, run-out}
 
-all-of : {A : Type 0} (P : A → Type 0) (xs : List A) → ((x : A) → In x xs → P x) → All P xs
+pub all-of : {A : Type 0} (P : A → Type 0) (xs : List A) → ((x : A) → In x xs → P x) → All P xs
 all-of P [] h = tt
 all-of P (x ∷ xs) h = (h x (inl refl), all-of P xs (λ y m. h y (inr m)))
 
@@ -36,7 +36,7 @@ all-of P (x ∷ xs) h = (h x (inl refl), all-of P xs (λ y m. h y (inr m)))
 table-leads : (x y : Table) → cmpTable x y ≡ lt → cmpBytes (x .name) (y .name) ≡ gt → ⊥
 table-leads x y h e = gt≢lt (sym e ∙ h)
 
-row-leads : (x y : Row) → cmpRow x y ≡ lt → cmpBytes (x .table) (y .table) ≡ gt → ⊥
+pub row-leads : (x y : Row) → cmpRow x y ≡ lt → cmpBytes (x .table) (y .table) ≡ gt → ⊥
 unfolding cmpRow
 row-leads x y h e = key-leads _ _ h e
 

@@ -127,7 +127,7 @@ module _ (p : Profile) (R : ℕ) (s : List ℕ) (b : LaidStore p R s) where
       )
 
   module _ (i : ℕ) where
-    entry-at : i < length ((lists p R s) .entries) → nth (entriesIn p R s) i ≡ some (readEntry p (getD ((lists p R s) .entries) i []))
+    pub entry-at : i < length ((lists p R s) .entries) → nth (entriesIn p R s) i ≡ some (readEntry p (getD ((lists p R s) .entries) i []))
     unfolding entriesIn
     entry-at h = nth-map (readEntry p) ((lists p R s) .entries) i ∙ ap (Option·map (readEntry p)) (nth-getD ((lists p R s) .entries) i [] h)
 

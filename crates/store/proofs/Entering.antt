@@ -50,7 +50,7 @@ module _ (p : Profile) (R : ℕ) (s : List ℕ) (b : Entered p R s) where
 
   -- records compare as the entries that they are read as
   module _ (e : Entry) where
-    agree : (r : List ℕ) → cmpEntered cellWidth r (e .table) (e .column) (e .value) (e .key) ≡ cmpEntry (readEntry p r) e
+    pub agree : (r : List ℕ) → cmpEntered cellWidth r (e .table) (e .column) (e .value) (e .key) ≡ cmpEntry (readEntry p r) e
     unfolding cmpEntered cmpNamed cmpContent cmpEntry readEntry
     agree r = rw (b .coded .cells)
 

@@ -119,7 +119,7 @@ cell-told : (rs : List S.Row) (t : Table) (update : Bool) (key : Value) (i : ℕ
 unfolding cellFault
 cell-told rs t update key i c v = told _ (refl, (refl, (refl, (refl, tt))))
 
-cells-told : (rs : List S.Row) (t : Table) (update : Bool) (key : Value) (i : ℕ) (cs : List Column) (vs : List Value) → Told (cellsFault rs t update key i cs vs)
+pub cells-told : (rs : List S.Row) (t : Table) (update : Bool) (key : Value) (i : ℕ) (cs : List Column) (vs : List Value) → Told (cellsFault rs t update key i cs vs)
 unfolding cellsFault
 cells-told rs t update key i [] vs = refl
 cells-told rs t update key i (c ∷ cs) [] = refl

@@ -41,3 +41,15 @@ pub mod Placed
 pub mod Linking
 pub mod Verdict
 pub mod EntryTests
+pub mod KeysRead
+pub mod Shown
+pub mod Showing
+pub mod KeysRemoved
+pub mod Scanned
+pub mod Lookups
+pub mod NextKey
+pub mod LeastKey
+pub mod KeysCounted
+pub mod Written
+pub mod Searched
+pub mod NextRow

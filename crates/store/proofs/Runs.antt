@@ -73,7 +73,7 @@ module _ (n : List ℕ) (w count : ℕ) (s : List ℕ) (at : ℕ) where
 module _ {A : Type 0} {cmp : A → A → Ordering} (rec : A → List ℕ) (name : A → List ℕ)
     (leads : (x y : A) → cmp x y ≡ lt → cmpBytes (name x) (name y) ≡ gt → ⊥) (n : List ℕ) where
   -- after one with a later name none has this one
-  none-behind : (x : A) (xs : List A) → Sorted cmp (x ∷ xs) → cmpBytes (name x) n ≡ gt → runLength cmpBytes name n xs ≡ 0
+  pub none-behind : (x : A) (xs : List A) → Sorted cmp (x ∷ xs) → cmpBytes (name x) n ≡ gt → runLength cmpBytes name n xs ≡ 0
   unfolding countOf
   none-behind x xs s h = go (runLength cmpBytes name n xs) refl
     where
@@ -92,7 +92,7 @@ module _ {A : Type 0} {cmp : A → A → Ordering} (rec : A → List ℕ) (name 
           ∙ in-keep (λ y. isEq (cmpBytes (name y) n)) x xs (rw kept (rw e (inl refl))) .1))
 
   -- the run at its start is all of it
-  leading : (xs : List A) → Sorted cmp xs → All (λ x. readName (rec x) ≡ name x) xs
+  pub leading : (xs : List A) → Sorted cmp xs → All (λ x. readName (rec x) ≡ name x) xs
       → runFrom n (drop (runAt cmpBytes name n xs) (map rec xs)) ≡ runLength cmpBytes name n xs
   unfolding countOf runFrom cmpNamed
   leading [] s h = refl
@@ -153,7 +153,7 @@ module _ (p : Profile) (R : ℕ) (a : Area) (n : List ℕ) (s : List ℕ) (r : R
     counted : count ≡ length (inArea a (lists p R s))
     counted = ec ∙ laid-count p R s (lists p R s) (r .laid) a
 
-    read : records w count areaBytes ≡ inArea a (lists p R s)
+    pub read : records w count areaBytes ≡ inArea a (lists p R s)
     read = rw (rest from s) (laid-records p R s (lists p R s) (r .laid) a from w m ef ew em count ec)
 
     pub run-inside : count * w ≤ length areaBytes

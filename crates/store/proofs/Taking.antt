@@ -27,10 +27,10 @@ use Rattle.store.specs.Asked.{tableWith, indexedAt, ofValue, ofOther, ot
 
 -- ---- entries by all but the key
 
-abbrev cmpGroup : Entry → Entry → Ordering
+abbrev pub cmpGroup : Entry → Entry → Ordering
 cmpGroup a b = andThen (cmpBytes (a .table) (b .table)) (andThen (compare (a .column) (b .column)) (cmpValue (a .value) (b .value)))
 
-ordGroup : Ord cmpGroup
+pub ordGroup : Ord cmpGroup
 ordGroup = lex (pull (λ (e : Entry). e .table) ordBytes) (lex (pull (λ (e : Entry). e .column) ordℕ) (pull (λ (e : Entry). e .value) ordValue))
 
 then-assoc : (a b c d : Ordering) → andThen a (andThen b (andThen c d)) ≡ andThen (andThen a (andThen b c)) d
@@ -40,11 +40,11 @@ then-assoc eq lt c d = refl
 then-assoc eq gt c d = refl
 then-assoc eq eq c d = refl
 
-entry-group : (a b : Entry) → cmpEntry a b ≡ andThen (cmpGroup a b) (cmpValue (a .key) (b .key))
+pub entry-group : (a b : Entry) → cmpEntry a b ≡ andThen (cmpGroup a b) (cmpValue (a .key) (b .key))
 unfolding cmpEntry
 entry-group a b = then-assoc (cmpBytes (a .table) (b .table)) (compare (a .column) (b .column)) (cmpValue (a .value) (b .value)) (cmpValue (a .key) (b .key))
 
-leads : (x y : Entry) → cmpEntry x y ≡ lt → cmpGroup x y ≡ gt → ⊥
+pub leads : (x y : Entry) → cmpEntry x y ≡ lt → cmpGroup x y ≡ gt → ⊥
 leads x y l g = key-leads (cmpGroup x y) (cmpValue (x .key) (y .key)) (sym (entry-group x y) ∙ l) g
 
 both-eq : (a b : Ordering) → isEq (andThen a b) ≡ (isEq a && isEq b)
@@ -83,7 +83,7 @@ module _ (n : Name) (i : ℕ) (v : Value) where
   abbrev pub firstOf : Entry
   firstOf = record { table = n; column = i; value = v; key = null }
 
-  in-group : (e : Entry) → isEq (cmpGroup e firstOf) ≡ ofValue n i v e
+  pub in-group : (e : Entry) → isEq (cmpGroup e firstOf) ≡ ofValue n i v e
   in-group e =
       both-eq (cmpBytes (e .table) n) (andThen (compare (e .column) i) (cmpValue (e .value) v))
       ∙ ap (λ (b : Bool). isEq (cmpBytes (e .table) n) && b)

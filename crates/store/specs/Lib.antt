@@ -7,3 +7,8 @@ pub mod Entered
 pub mod Asked
 pub mod Fresh
 pub mod Tested
+pub mod Keys
+pub mod Referring
+pub mod Spans
+pub mod Looked
+pub mod Removed

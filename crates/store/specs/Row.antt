@@ -3,11 +3,12 @@ use mathlib.Core.Path.{_≡_}
 use Prim.Native.Nat.{ℕ, _+_, _*_, _≤_, _<_}
 use mathlib.Core.Bool.{true, false}
 use mathlib.Core.List.{List, [], map}
-use mathlib.Core.Option.{some}
+use mathlib.Core.Option.{none, some}
 use lib.ListN.{length, take}
 use Rattle.values.specs.Basic.{nth, orDefault}
-use Rattle.values.specs.Value.{Value, null, same}
+use Rattle.values.specs.Value.{Value, null, same, normalised}
 use Rattle.values.specs.Cell.{nameWidth}
+use Rattle.values.specs.declared.value.Cell.{Cell}
 use Rattle.values.specs.Meaning.{held, ProperCell}
 use Rattle.values.specs.Sorted.{All}
 use Rattle.rules.specs.declared.profile.Profile.{Profile}
@@ -46,6 +47,13 @@ rowIn p R s i = orDefault (nth ((parse p R s) .rows) i) noRow
 unfoldable pub tableIn : Profile → ℕ → List ℕ → ℕ → Table
 tableIn p R s t = orDefault (nth ((parse p R s) .tables) t) (unknown [])
 
+-- its column j
+abbrev pub noColumn : S.Column
+noColumn = record { name = []; kind = 0; nullable = false; default = none; unique = false; index = false; reference = none }
+
+unfoldable pub columnIn : Profile → ℕ → List ℕ → ℕ → ℕ → S.Column
+columnIn p R s t j = orDefault (nth ((tableIn p R s t) .columns) j) noColumn
+
 -- `column` is the key column of the table named n, if that is stored
 pub record KeyColumn (p : Profile) (R : ℕ) (s : List ℕ) (n : List ℕ) (column : ℕ) : Type 0 where
   pub inside : column < p .columns
@@ -69,8 +77,13 @@ pub record Replaceable (p : Profile) (R : ℕ) (s : List ℕ) (t i : ℕ) (v : L
   pub same : same ((rowIn p R s i) .key) (keyOf (tableIn p R s t) v) ≡ true
   pub laid : laid p R (apply (replaced (rowIn p R s i) (rowOf (tableIn p R s t) v)) (parse p R s)) ≡ true
 
+-- a value as reading gives it: no minus zero, one NaN
+abbrev pub NormalCell : Cell → Type 0
+NormalCell c = normalised (held c) ≡ held c
+
 -- a full row for the table at place t
 pub record FullRow (p : Profile) (R : ℕ) (s : List ℕ) (t : ℕ) (r : Row) : Type 0 where
   pub known : t < length ((parse p R s) .tables)
   pub proper : ProperRow r
   pub full : r .count ≡ length ((tableIn p R s t) .columns)
+  pub normal : All NormalCell (take (r .count) (r .cells))

@@ -32,7 +32,8 @@ ghost use Rattle.store.specs.Row.{cellsOf, tableIn, KeyColumn, FullRow};
 ghost use Rattle.store.specs.Entered.{entriesIn};
 ghost use Rattle.store.specs.Asked.{tableWith, indexedAt, UniqueIndexed, bytesOfValue, otherAt, kindFault, placeFault};
 
-fn is_same(v: Value, w: Value) -> bool
+// Whether two values are equal.
+pub fn is_same(v: Value, w: Value) -> bool
     requires { ⌜ Proper v × Proper w ⌝ }
     ensures { λ r. ⌜ r ≡ same (meaning v) (meaning w) ⌝ }
 {
@@ -54,7 +55,7 @@ fn is_itself(target: Text, name: Text, v: Value, key: Value) -> bool
 }
 
 // Whether a row of the table has the key.
-fn is_stored(s: &[u8], p: Profile, places: usize, name: Text, at: usize, key: Value) -> bool
+pub fn is_stored(s: &[u8], p: Profile, places: usize, name: Text, at: usize, key: Value) -> bool
     requires { ⌜ LaidStore p places (now s) × KeyColumn p places (now s) (textBytes name) at × Packed name × Proper key ⌝ }
     ensures { λ r. ⌜ r ≡ hasRow ((parse p places (now (s .entry))) .rows) (textBytes name) (meaning key) ⌝ }
 {
@@ -145,7 +146,7 @@ fn is_other(
 }
 
 // Whether another row has the value; an update ignores its own row, so two entries decide.
-fn is_taken(
+pub fn is_taken(
     s: &[u8],
     p: Profile,
     places: usize,

@@ -5,4 +5,8 @@ pub mod local; // local.rs: the catalog
 pub mod row; // rows by place
 pub mod change; // a row added, replaced, removed
 pub mod check; // schema.rs: what is wrong with a row
+pub mod keys; // keys in a request's bytes
+pub mod reads; // local.rs: get, lookup, scan
+pub mod referrer; // local.rs: delete's reference test
+pub mod rows; // local.rs: insert, update, delete
 pub mod sound; // a fresh store, and the test of any bytes

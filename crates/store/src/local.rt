@@ -125,7 +125,7 @@ pub fn table_references(s: &[u8], p: Profile, places: usize, name: Text) -> Refe
 }
 
 // How many of the `count` records from place `at` on start with `name`.
-fn run_from(area: &[u8], width: usize, count: usize, at: usize, name: Text) -> usize
+pub fn run_from(area: &[u8], width: usize, count: usize, at: usize, name: Text) -> usize
     requires { ⌜ (nameWidth ≤ width) × (count * width ≤ length (now area)) × (at ≤ count) × Packed name ⌝ }
     ensures { λ r. ⌜ r ≡ runFrom (textBytes name) (drop at (records width count (now (area .entry)))) ⌝ }
 {

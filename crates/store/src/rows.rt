@@ -1,0 +1,191 @@
+// Writes of rows (local.rs: `insert`, `update`, `delete`): one full row, one pair, a request's keys.
+use super::change;
+use super::check;
+use super::layout;
+use super::referrer;
+use super::row;
+use super::row::Row;
+use super::schema;
+use super::schema::Found;
+use rules::answer;
+use rules::answer::Answer;
+use rules::answer::Refusal;
+use rules::profile::Profile;
+use values::cell;
+use values::read;
+use values::read::ReadCell;
+use values::value::Text;
+use values::value::Value;
+ghost use mathlib.Core.Path.{_≡_};
+ghost use mathlib.Core.Bool.{not};
+ghost use mathlib.Core.List.{[], _∷_};
+ghost use Prim.Native.Nat.{_<_};
+ghost use lib.ListN.{length};
+ghost use Rattle.values.specs.Meaning.{textBytes, Packed, meaning, Proper};
+ghost use Rattle.values.specs.Basic.{isNil};
+ghost use Rattle.rules.specs.Layout.{parse};
+ghost use Rattle.rules.specs.Step.{insertRow, delete as deleted, sameKey, otherKey, pair};
+ghost use Rattle.store.specs.Store.{LaidStore, Store, Stored};
+ghost use Rattle.store.specs.Row.{cellsOf, tableIn, FullRow};
+ghost use Rattle.store.specs.Keys.{valuesFrom};
+ghost use Rattle.store.specs.Removed.{removalsIn, Removes, pairOf};
+
+// Adds a full row to the table at place t: 26, 27; each column 28 to 31; 33, 36.
+pub fn insert(s: &mut [u8], p: Profile, places: usize, t: usize, row: Row) -> Answer
+    requires { ⌜ Store p places (now s) × FullRow p places (now s) t row ⌝ }
+    ensures { λ r. ⌜ Stored p places (insertRow p places (tableIn p places (now (s .entry)) t) (parse p places (now (s .entry))) (cellsOf row)) (now (s .entry)) (now (s .exit)) r ⌝ }
+{
+    let k = check::validate_row(s, p, places, t, row, false);
+    if !answer::is_accepted(k) {
+        return answer::refused(k, 0);
+    }
+    change::add_row(s, p, places, t, row);
+    answer::accepted(1)
+}
+
+// Takes out the row with the key of the table at place t, if there is one.
+fn remove_key(s: &mut [u8], p: Profile, places: usize, t: usize, key: Value) -> bool
+    requires { ⌜ LaidStore p places (now s) × (t < length ((parse p places (now s)) .tables)) × Proper key ⌝ }
+    ensures { λ r. ⌜ Removes p places (now (s .entry)) t (meaning key ∷ []) (now (s .exit)) × (r ≡ not (isNil (removalsIn p places (now (s .entry)) t (meaning key ∷ [])))) ⌝ }
+{
+    let name = cell::read_name(layout::table_record(s, p, places, t));
+    let column = schema::key_column(layout::table_record(s, p, places, t));
+    match row::find_row(s, p, places, name, column, key) {
+        Found::At(i) => {
+            change::remove_row(s, p, places, t, i);
+            true
+        }
+        Found::Nothing => false,
+    }
+}
+
+// Removes each key's row of the table at place t in turn; an absent or repeated key removes nothing. Returns how many keys there are.
+fn remove_keys(
+    s: &mut [u8],
+    p: Profile,
+    places: usize,
+    t: usize,
+    rec: &[u8],
+    at: usize,
+    count: usize,
+) -> usize
+    requires { ⌜ LaidStore p places (now s) × (t < length ((parse p places (now s)) .tables)) ⌝ }
+    ensures { λ r. ⌜ Removes p places (now (s .entry)) t (valuesFrom (now (rec .entry)) count at) (now (s .exit)) × (r ≡ length (valuesFrom (now (rec .entry)) count at)) ⌝ }
+{
+    let mut left = count;
+    let mut next = at;
+    while 0 < left {
+        match read::value_at(rec, next) {
+            ReadCell::Got { cell, next: end } => {
+                let key = cell.value;
+                remove_key(s, p, places, t, key);
+                next = end;
+            }
+            ReadCell::Broken(_) => {
+                return count - left;
+            }
+        }
+        left -= 1;
+    }
+    count
+}
+
+// Removes the rows with the `count` keys from `at` on in a record: 2; 32, tested before anything is removed.
+pub fn delete(
+    s: &mut [u8],
+    p: Profile,
+    places: usize,
+    name: Text,
+    rec: &[u8],
+    at: usize,
+    count: usize,
+) -> Answer
+    requires { ⌜ Store p places (now s) × Packed name ⌝ }
+    ensures { λ r. ⌜ Stored p places (deleted (parse p places (now (s .entry))) (textBytes name) (valuesFrom (now (rec .entry)) count at)) (now (s .entry)) (now (s .exit)) r ⌝ }
+{
+    let Found::At(t) = schema::get_table(s, p, places, name) else {
+        return answer::refused(Refusal::UnknownTable, 0);
+    };
+    let r = referrer::row_references(s, p, places, name, rec, at, count);
+    if r.found {
+        let k = r.key;
+        let key = k.value;
+        return answer::carrying(Refusal::RowReferenced, r.table, r.column, key);
+    }
+    answer::accepted(remove_keys(s, p, places, t, rec, at, count))
+}
+
+// A row in place of the stored one with its key: 26; each column 28 to 31; 34; 36.
+fn same_key(s: &mut [u8], p: Profile, places: usize, t: usize, row: Row) -> Answer
+    requires { ⌜ Store p places (now s) × FullRow p places (now s) t row ⌝ }
+    ensures { λ r. ⌜ Stored p places (sameKey p places (tableIn p places (now (s .entry)) t) (parse p places (now (s .entry))) (cellsOf row)) (now (s .entry)) (now (s .exit)) r ⌝ }
+{
+    let f = check::validate_row(s, p, places, t, row, true);
+    if !answer::is_accepted(f) {
+        return answer::refused(f, 0);
+    }
+    let name = cell::read_name(layout::table_record(s, p, places, t));
+    let column = schema::key_column(layout::table_record(s, p, places, t));
+    let cells = row.cells;
+    let k = cells[column];
+    let key = k.value;
+    let Found::At(i) = row::find_row(s, p, places, name, column, key) else {
+        return answer::accepted(1);
+    };
+    change::replace_row(s, p, places, t, i, row);
+    answer::accepted(1)
+}
+
+// A delete of the old key, which stands at `at` in a record, and then an insert: 32; after it what refuses an insert, with GONE where a row went.
+fn other_key(
+    s: &mut [u8],
+    p: Profile,
+    places: usize,
+    t: usize,
+    rec: &[u8],
+    at: usize,
+    old: Value,
+    row: Row,
+) -> Answer
+    requires { ⌜ Store p places (now s) × FullRow p places (now s) t row × Proper old × (valuesFrom (now rec) 1 at ≡ meaning old ∷ []) ⌝ }
+    ensures { λ r. ⌜ Stored p places (otherKey p places (tableIn p places (now (s .entry)) t) (parse p places (now (s .entry))) (pairOf old row)) (now (s .entry)) (now (s .exit)) r ⌝ }
+{
+    let name = cell::read_name(layout::table_record(s, p, places, t));
+    let r = referrer::row_references(s, p, places, name, rec, at, 1);
+    if r.found {
+        let k = r.key;
+        let key = k.value;
+        return answer::carrying(Refusal::RowReferenced, r.table, r.column, key);
+    }
+    let gone = remove_key(s, p, places, t, old);
+    let a = insert(s, p, places, t, row);
+    let kind = a.kind;
+    if answer::is_accepted(kind) {
+        return a;
+    }
+    answer::with_gone(a, gone)
+}
+
+// One pair of an update of the table at place t: the row in place of the old one, or, where the key differs, a delete and then an insert.
+pub fn update(
+    s: &mut [u8],
+    p: Profile,
+    places: usize,
+    t: usize,
+    rec: &[u8],
+    at: usize,
+    old: Value,
+    row: Row,
+) -> Answer
+    requires { ⌜ Store p places (now s) × FullRow p places (now s) t row × Proper old × (valuesFrom (now rec) 1 at ≡ meaning old ∷ []) ⌝ }
+    ensures { λ r. ⌜ Stored p places (pair p places (tableIn p places (now (s .entry)) t) (parse p places (now (s .entry))) (pairOf old row)) (now (s .entry)) (now (s .exit)) r ⌝ }
+{
+    let column = schema::key_column(layout::table_record(s, p, places, t));
+    let cells = row.cells;
+    let k = cells[column];
+    let key = k.value;
+    if check::is_same(old, key) {
+        return same_key(s, p, places, t, row);
+    }
+    other_key(s, p, places, t, rec, at, old, row)
+}
