@@ -2,7 +2,7 @@
 // must get. Shows a line for each case whose verdict is another, and at the end how many were sound, how many not, and how many were wrong.
 use libc::STDIN_FILENO;
 use libc::STDOUT_FILENO;
-use store::sound;
+use sound::soundness;
 use values::area;
 use values::bytes;
 
@@ -52,7 +52,7 @@ struct Tally {
 
 // The verdict on one case, counted.
 fn judged(s: &[u8], expected: bool, number: u64, t: Tally) -> Tally {
-    let found = sound::is_sound(s);
+    let found = soundness::is_sound(s);
     let mut next = t;
     if found != expected {
         say(b"wrong verdict on case ", number);

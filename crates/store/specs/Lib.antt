@@ -5,8 +5,6 @@ pub mod Faults
 pub mod Row
 pub mod Entered
 pub mod Asked
-pub mod Fresh
-pub mod Tested
 pub mod Keys
 pub mod Referring
 pub mod Spans

@@ -1,4 +1,4 @@
-// The store: a lent buffer of sorted areas, its soundness, its catalog.
+// The store: a lent buffer of sorted areas, its catalog, its rows.
 pub mod layout; // where things stand
 pub mod schema; // schema.rs: a stored schema's columns, and what is wrong with a schema
 pub mod local; // local.rs: the catalog
@@ -9,4 +9,3 @@ pub mod keys; // keys in a request's bytes
 pub mod reads; // local.rs: get, lookup, scan
 pub mod referrer; // local.rs: delete's reference test
 pub mod rows; // local.rs: insert, update, delete
-pub mod sound; // a fresh store, and the test of any bytes

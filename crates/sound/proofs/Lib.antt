@@ -1,0 +1,17 @@
+pub mod AreaWalks
+pub mod Asking
+pub mod Headers
+pub mod Indexed
+pub mod LaidOut
+pub mod Lengths
+pub mod Parts
+pub mod Pieces
+pub mod Ranked
+pub mod RecordPieces
+pub mod Walks
+pub mod RowPieces
+pub mod Rowing
+pub mod Placed
+pub mod Linking
+pub mod Verdict
+pub mod EntryTests

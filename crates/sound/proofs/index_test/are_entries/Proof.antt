@@ -1,0 +1,68 @@
+-- `sound::index_test::are_entries` meets its contract. Assumes nothing.
+use mathlib.Core.Path.{_≡_, refl}
+use Prim.Native.Nat.{_-_}
+use native.Mathlib.Omega.{arith}
+use lib.ListN.{drop}
+use Rattle.rules.specs.Layout.{Entries, lists}
+use Rattle.rules.specs.Sound.{every}
+use Rattle.sound.specs.Tested.{isEntry}
+use Rattle.store.proofs.Inside.{inside-header}
+use Rattle.sound.proofs.AreaWalks.{below, wide-of, walk-stop, walk-next, walk-end}
+use Rattle.sound.proofs.index_test.are_entries.Statement.{statement}
+use Rattle.sound.proofs.index_test.are_entries.Tie as tie
+
+abbrev Inv-loop : tie.InvT-loop
+Inv-loop s p places count i₀ i = every (isEntry p) ((lists p places s) .entries) ≡ every (isEntry p) (drop i ((lists p places s) .entries))
+
+abbrev μ-loop : tie.MeasureT-loop
+μ-loop s p places count i₀ i = count - i
+
+entry-count-requires : tie.Need-entry-count-requires Inv-loop μ-loop
+entry-count-requires c κs =
+    let a = c .before .args in
+    inside-header (a .p) (a .places) (a .s .now) (c .before .pre)
+
+loop-holds : tie.Need-loop-holds Inv-loop μ-loop
+loop-holds c = refl
+
+entry-record-requires : tie.Need-entry-record-requires Inv-loop μ-loop
+entry-record-requires c κs =
+    let a = c .before .before .before .before .args in
+    (c .before .before .before .before .pre, below (a .p) (a .places) (a .s .now) Entries _ (c .before .before .entry-count .ensures) _ (c .loop-test .taken))
+
+is-entry-requires : tie.Need-is-entry-requires Inv-loop μ-loop
+is-entry-requires c κs =
+    let a = c .before .before .before .before .before .args in
+    let q = c .before .before .before .before .before .pre in
+    (q .coded, wide-of (a .p) (a .places) (a .s .now) Entries _ (c .before .before .before .entry-count .ensures) (q) _ _ (c .before .loop-test .taken) (c .entry-record .ensures))
+
+returns : tie.Need-returns Inv-loop μ-loop
+returns c = walk-stop _ _ _ Entries _ (c .before .before .before .before .before .entry-count .ensures) (isEntry (c .before .before .before .before .before .before .before .args .p)) _ (c .before .before .before .before .loop .inv) _ _ (c .before .before .before .loop-test .taken) (c .before .before .entry-record .ensures) (c .before .is-entry .ensures) (c .if1 .taken)
+
+add-i : tie.Need-add-i Inv-loop μ-loop
+add-i c = omega arith
+
+loop-less : tie.Need-loop-less Inv-loop μ-loop
+loop-less c = omega arith
+
+loop-again : tie.Need-loop-again Inv-loop μ-loop
+loop-again c = walk-next _ _ _ Entries _ (c .before .before .before .before .before .entry-count .ensures) (isEntry (c .before .before .before .before .before .before .before .args .p)) _ (c .before .before .before .before .loop .inv) _ _ (c .before .before .before .loop-test .taken) (c .before .before .entry-record .ensures) (c .before .is-entry .ensures) (c .if1 .left)
+
+returns-2 : tie.Need-returns-2 Inv-loop μ-loop
+returns-2 c = walk-end _ _ _ Entries _ (c .before .before .entry-count .ensures) (isEntry (c .before .before .before .before .args .p)) _ (c .before .loop .inv) (c .loop-test .left)
+
+pub are-entries-spec : {M : Type 1} → statement M
+are-entries-spec =
+    tie.close
+    (tie.spec
+    Inv-loop
+    μ-loop
+    entry-count-requires
+    loop-holds
+    entry-record-requires
+    is-entry-requires
+    returns
+    add-i
+    loop-less
+    loop-again
+    returns-2)

@@ -1,0 +1,92 @@
+-- `sound::reference_test::are_held` meets its contract. Assumes nothing.
+use mathlib.Core.Path.{_≡_, refl}
+use Prim.Native.Nat.{_-_, _≤_, _<_}
+use native.Mathlib.Omega.{arith}
+use lib.ListN.{length, getD}
+use Rattle.rules.specs.Layout.{parse, readTable}
+use Rattle.rules.specs.Sound.{held}
+use Rattle.store.specs.Column.{columnOf}
+use Rattle.sound.specs.Tested.{cellsIn}
+use Rattle.store.proofs.Columns.{count-byte, columns-few, record-least}
+use Rattle.sound.proofs.Walks.{Cells}
+use Rattle.sound.proofs.Rowing.{row-cell-fits, row-stop, row-next, row-end}
+use Rattle.sound.proofs.reference_test.are_held.Statement.{statement}
+use Rattle.sound.proofs.reference_test.are_held.Tie as tie
+
+abbrev Inv-loop : tie.InvT-loop
+Inv-loop s p places row rec count i₀ i = (count ≡ getD rec 26 0) × Cells (λ i c v. held ((parse p places s) .rows) (c .reference) v) ((readTable p rec) .columns) (cellsIn (length ((readTable p rec) .columns)) row) i
+
+abbrev μ-loop : tie.MeasureT-loop
+μ-loop s p places row rec count i₀ i = count - i
+
+few : (c : tie.In-loop Inv-loop μ-loop) →
+    let a = c .before .before .before .before .before .before .args in
+    getD (a .rec .now) 26 0 ≤ a .p .columns
+few c =
+    let a = c .before .before .before .before .before .before .args in
+    omega (arith, columns-few (a .p) (a .rec .now) (c .before .before .before .before .before .before .pre .1), count-byte (a .p) (a .rec .now))
+
+inner : (c : tie.In-loop Inv-loop μ-loop) → c .before .loop .i < getD (c .before .before .before .before .before .before .args .rec .now) 26 0
+inner c = omega (arith, c .before .loop .inv .0, c .loop-test .taken)
+
+shared-slice-read-count : tie.Need-shared-slice-read-count Inv-loop μ-loop
+shared-slice-read-count c =
+    let a = c .before .before .before .before .args in
+    omega (arith, record-least (a .p) (a .rec .now) (c .before .before .before .before .pre .1))
+
+cast-count : tie.Need-cast-count Inv-loop μ-loop
+cast-count c = omega (arith, c .shared-slice-known4 .given 26)
+
+loop-holds : tie.Need-loop-holds Inv-loop μ-loop
+loop-holds c = (refl, refl)
+
+read-column-requires : tie.Need-read-column-requires Inv-loop μ-loop
+read-column-requires c κs = (c .before .before .before .before .before .before .pre .1, omega (arith, few c, inner c))
+
+cell-at-requires : tie.Need-cell-at-requires Inv-loop μ-loop
+cell-at-requires c κs =
+    let a = c .before .before .before .before .before .before .before .args in
+    let q = c .before .before .before .before .before .before .before .pre in
+    row-cell-fits (a .p) (q .1 .coded) (a .row .now) (getD (a .rec .now) 26 0) (c .before .before .loop .i) (q .2) (few (c .before)) (inner (c .before))
+
+is-held-requires : tie.Need-is-held-requires Inv-loop μ-loop
+is-held-requires c κs = (c .before .before .before .before .before .before .before .before .pre .0, c .before .read-column .ensures .proper, c .cell-at .ensures .1)
+
+returns : tie.Need-returns Inv-loop μ-loop
+returns c =
+    let a = c .before .before .before .before .before .before .before .before .before .before .args in
+    row-stop (a .p) (a .rec .now) (a .row .now) (λ j x v. held ((parse (a .p) (a .places) (a .s .now)) .rows) (x .reference) v) (c .before .before .before .before .before .before .before .before .before .before .pre .1) (c .before .before .before .before .before .loop .i) (inner (c .before .before .before .before)) (c .before .before .before .before .before .loop .inv .1) (columnOf (c .before .before .before .read-column .result)) (c .before .before .before .read-column .ensures .is) _ (c .before .before .cell-at .ensures .0) _ (c .before .is-held .ensures) (c .if1 .taken)
+
+add-i : tie.Need-add-i Inv-loop μ-loop
+add-i c = omega (arith, inner (c .before .before .before .before), c .before .before .before .before .before .before .shared-slice-known4 .given 26)
+
+loop-less : tie.Need-loop-less Inv-loop μ-loop
+loop-less c = omega arith
+
+loop-again : tie.Need-loop-again Inv-loop μ-loop
+loop-again c =
+    let a = c .before .before .before .before .before .before .before .before .before .before .args in
+    (c .before .before .before .before .before .loop .inv .0, row-next (a .p) (a .rec .now) (a .row .now) (λ j x v. held ((parse (a .p) (a .places) (a .s .now)) .rows) (x .reference) v) (c .before .before .before .before .before .before .before .before .before .before .pre .1) (c .before .before .before .before .before .loop .i) (inner (c .before .before .before .before)) (c .before .before .before .before .before .loop .inv .1) (columnOf (c .before .before .before .read-column .result)) (c .before .before .before .read-column .ensures .is) _ (c .before .before .cell-at .ensures .0) _ (c .before .is-held .ensures) (c .if1 .left))
+
+returns-2 : tie.Need-returns-2 Inv-loop μ-loop
+returns-2 c =
+    let a = c .before .before .before .before .before .before .args in
+    row-end (a .p) (a .rec .now) (a .row .now) (λ j x v. held ((parse (a .p) (a .places) (a .s .now)) .rows) (x .reference) v) (c .before .loop .i) (c .before .loop .inv .1) (omega (arith, c .before .loop .inv .0, c .loop-test .left))
+
+pub are-held-spec : {M : Type 1} → statement M
+are-held-spec =
+    tie.close
+    (tie.spec
+    Inv-loop
+    μ-loop
+    shared-slice-read-count
+    cast-count
+    loop-holds
+    read-column-requires
+    cell-at-requires
+    is-held-requires
+    returns
+    add-i
+    loop-less
+    loop-again
+    returns-2)

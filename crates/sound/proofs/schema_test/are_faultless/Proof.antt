@@ -1,0 +1,78 @@
+-- `sound::schema_test::are_faultless` meets its contract. Assumes nothing.
+use mathlib.Core.Path.{_≡_, refl, sym, _∙_, subst}
+use Prim.Native.Nat.{_-_}
+use native.Mathlib.Omega.{arith}
+use lib.ListN.{drop}
+use Rattle.rules.specs.Layout.{Schemas, lists, parse, readTable}
+use Rattle.rules.specs.Sound.{every}
+use Rattle.store.proofs.Inside.{inside-header}
+use Rattle.sound.proofs.AreaWalks.{below, walk-stop, walk-next, walk-end}
+use Rattle.values.specs.Basic.{isNone}
+use Rattle.rules.specs.Schema.{schemaFault}
+use Rattle.store.specs.Catalog.{TableBytes}
+use Rattle.store.proofs.Searching.{table-bytes-at}
+use Rattle.sound.proofs.Rowing.{faultless-walk}
+use Rattle.sound.proofs.schema_test.are_faultless.Statement.{statement}
+use Rattle.sound.proofs.schema_test.are_faultless.Tie as tie
+
+abbrev Inv-loop : tie.InvT-loop
+Inv-loop s p places count i₀ i = every (λ r. isNone (schemaFault ((parse p places s) .tables) (readTable p r))) ((lists p places s) .schemas) ≡ every (λ r. isNone (schemaFault ((parse p places s) .tables) (readTable p r))) (drop i ((lists p places s) .schemas))
+
+abbrev μ-loop : tie.MeasureT-loop
+μ-loop s p places count i₀ i = count - i
+
+table-count-requires : tie.Need-table-count-requires Inv-loop μ-loop
+table-count-requires c κs =
+    let a = c .before .args in
+    inside-header (a .p) (a .places) (a .s .now) (c .before .pre .inside)
+
+loop-holds : tie.Need-loop-holds Inv-loop μ-loop
+loop-holds c = refl
+
+table-record-requires : tie.Need-table-record-requires Inv-loop μ-loop
+table-record-requires c κs =
+    let a = c .before .before .before .before .args in
+    (c .before .before .before .before .pre .inside, below (a .p) (a .places) (a .s .now) Schemas _ (c .before .before .table-count .ensures) _ (c .loop-test .taken))
+
+is-faultless-requires : tie.Need-is-faultless-requires Inv-loop μ-loop
+is-faultless-requires c κs =
+    let a = c .before .before .before .before .before .args in
+    let q = c .before .before .before .before .before .pre in
+    (q, subst (TableBytes (a .p)) (sym (c .table-record .ensures)) (table-bytes-at (a .p) (a .places) (a .s .now) _ (below (a .p) (a .places) (a .s .now) Schemas _ (c .before .before .before .table-count .ensures) _ (c .before .loop-test .taken)) (q)))
+
+returns : tie.Need-returns Inv-loop μ-loop
+returns c =
+    let a = c .before .before .before .before .before .before .before .args in
+    walk-stop (a .p) (a .places) (a .s .now) Schemas _ (c .before .before .before .before .before .table-count .ensures) (λ r. isNone (schemaFault ((parse (a .p) (a .places) (a .s .now)) .tables) (readTable (a .p) r))) _ (c .before .before .before .before .loop .inv) _ _ (c .before .before .before .loop-test .taken) (c .before .before .table-record .ensures) (c .before .is-faultless .ensures) (c .if1 .taken) ∙ faultless-walk (a .p) (a .places) (a .s .now)
+
+add-i : tie.Need-add-i Inv-loop μ-loop
+add-i c = omega arith
+
+loop-less : tie.Need-loop-less Inv-loop μ-loop
+loop-less c = omega arith
+
+loop-again : tie.Need-loop-again Inv-loop μ-loop
+loop-again c =
+    let a = c .before .before .before .before .before .before .before .args in
+    walk-next (a .p) (a .places) (a .s .now) Schemas _ (c .before .before .before .before .before .table-count .ensures) (λ r. isNone (schemaFault ((parse (a .p) (a .places) (a .s .now)) .tables) (readTable (a .p) r))) _ (c .before .before .before .before .loop .inv) _ _ (c .before .before .before .loop-test .taken) (c .before .before .table-record .ensures) (c .before .is-faultless .ensures) (c .if1 .left)
+
+returns-2 : tie.Need-returns-2 Inv-loop μ-loop
+returns-2 c =
+    let a = c .before .before .before .before .args in
+    walk-end (a .p) (a .places) (a .s .now) Schemas _ (c .before .before .table-count .ensures) (λ r. isNone (schemaFault ((parse (a .p) (a .places) (a .s .now)) .tables) (readTable (a .p) r))) _ (c .before .loop .inv) (c .loop-test .left) ∙ faultless-walk (a .p) (a .places) (a .s .now)
+
+pub are-faultless-spec : {M : Type 1} → statement M
+are-faultless-spec =
+    tie.close
+    (tie.spec
+    Inv-loop
+    μ-loop
+    table-count-requires
+    loop-holds
+    table-record-requires
+    is-faultless-requires
+    returns
+    add-i
+    loop-less
+    loop-again
+    returns-2)
