@@ -1,9 +1,9 @@
 #!/usr/bin/env python3
 """Streams of requests, seeded.
 
-  generate.py inside SEED COUNT > STREAMS    at least COUNT requests inside the domain
-  generate.py broken SEED COUNT > STREAMS    outside the domain, and broken records
-  generate.py --tally STREAMS                how often each operation, code, AT and GONE comes
+  generate.py inside SEED COUNT [R] > STREAMS    at least COUNT requests inside the domain, with R row places if said
+  generate.py broken SEED COUNT > STREAMS        outside the domain, and broken records
+  generate.py --tally STREAMS                    how often each operation, code, AT and GONE comes
 """
 
 import random
@@ -21,12 +21,12 @@ PLACES = [4, 6, 8, 8, 10, 12, 12, 16, 24, 40, 70]
 NARROW = [1, 2, 3, 4, 5, 6, 8, 12, 20, 70]
 
 
-def inside(seed, count):
+def inside(seed, count, fixed=None):
     """Pairs of R and records."""
     seen, made, number = {}, 0, 0
     while made < count:
         rng = random.Random("inside %d %d" % (seed, number))
-        stream = Inside(rng, rng.choice(PLACES), seen)
+        stream = Inside(rng, fixed or rng.choice(PLACES), seen)
         wanted = [stream.request() for _ in range(rng.randrange(20, 90))]
         found = [data for data in wanted if data is not None]
         made, number = made + len(found), number + 1
@@ -59,8 +59,8 @@ def main(words):
     if len(words) == 2 and words[0] == "--tally":
         with open(words[1], "rb") as f:
             print_tally(read_streams(f))
-    elif len(words) == 3 and words[0] in MAKERS:
-        for places, source in MAKERS[words[0]](int(words[1]), int(words[2])):
+    elif len(words) == 3 and words[0] in MAKERS or len(words) == 4 and words[0] == "inside":
+        for places, source in MAKERS[words[0]](*[int(word) for word in words[1:]]):
             sys.stdout.buffer.write(struct.pack(">I", places) + packed(source))
     else:
         print(__doc__, file=sys.stderr)

@@ -1,8 +1,8 @@
 #!/usr/bin/env python3
 """Makes the fixed lists.
 
-  record.py rust ORACLE     lists/rust.list: the Rust's answers inside the domain
-  record.py paper           lists/paper.list: document 01's answers to what the Rust can't say
+  record.py rust ORACLE     rust.list: the Rust's answers inside the domain
+  record.py paper           paper.list: document 01's answers to what the Rust can't say
 
 rust.list has the cases of by_hand_inside.py and by_hand_places.py, and generated streams, chosen
 so that every operation, code, AT and GONE comes several times. Answers and bytes are the oracle's; a case
@@ -27,7 +27,8 @@ from runs import run
 from tally import by_request, operation
 from values import State
 
-LISTS = os.path.join(os.path.dirname(os.path.abspath(__file__)), "lists")
+HERE = os.path.dirname(os.path.abspath(__file__))
+LISTS = os.path.join(HERE, "..", "crates", "replay", "data")  # where the program that replays them looks
 SEED, REQUESTS = 20011, 60000  # where the generated streams come from
 CASES, WIDE, WANTED = 60, 2, 6  # cases in all, of them generated with R = 70, how often each answer should come
 

@@ -18,7 +18,7 @@ import tempfile
 from packed import read_answers
 
 HERE = os.path.dirname(os.path.abspath(__file__))
-LISTS = ["rust", "paper", "lent"]
+LISTS = ["../crates/replay/data/rust", "../crates/replay/data/paper", "lists/lent"]
 PARTS = ["model.py", "values.py", "layout.py", "records.py", "rules.py", "runs.py", "packed.py", "checks.py"]
 
 
@@ -72,7 +72,7 @@ def failing(folder):
     """How many cases of each fixed list the model in a folder fails, as text."""
     row = []
     for name in LISTS:
-        command = [sys.executable, "-B", os.path.join(folder, "model.py"), "--check", os.path.join(HERE, "lists", name + ".list")]
+        command = [sys.executable, "-B", os.path.join(folder, "model.py"), "--check", os.path.join(HERE, name + ".list")]
         done = subprocess.run(command, stdout=subprocess.PIPE, stderr=subprocess.DEVNULL, text=True)
         found = re.search(r"(\d+) failed", done.stdout)
         row.append(found[1] if found else "stops")
@@ -113,7 +113,7 @@ def main(words):
         sources = {kind: generated(work, kind, seed, count) for kind in ("inside", "broken")}
         print("Streams that differ, by lines / bytes / what is carried; then failing cases of the lists. Seed %s, %s." % (
             seed, ", ".join("%s: %d streams" % (kind, len(right)) for kind, (_, right) in sources.items())))
-        print("%-70s %-14s %-14s %s" % ("change", "inside", "broken", "/".join(LISTS)))
+        print("%-70s %-14s %-14s %s" % ("change", "inside", "broken", "/".join(os.path.basename(name) for name in LISTS)))
         changes = [*written_changes(), *refusals_left_out()]
         for name, file, was, becomes in changes:
             folder = copied_model(work)

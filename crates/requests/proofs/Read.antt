@@ -61,10 +61,10 @@ gives-map P Q (got a n) f h = f a h
 gives-map P Q (broken x) f h = tt
 
 -- nothing is asked of what was read
-abbrev Any : {A : Type 0} → A → Type 0
+abbrev pub Any : {A : Type 0} → A → Type 0
 Any a = Unit {0}
 
-any : {A : Type 0} (w : Read A) → Gives Any w
+pub any : {A : Type 0} (w : Read A) → Gives Any w
 any w = gives Any w (λ a n e. tt)
 
 module _ {A : Type 0} (t : A → Bool) where
@@ -125,7 +125,7 @@ module _ (s : List ℕ) (h : Bytes s) where
       (λ n b e.
       gives-map (Passed writable n) (λ vs. every writable vs ≡ true) (times (valueAt s) n b) (λ vs k. k .0) (gives-times writable (valueAt s) n b gives-value))
 
-  gives-column : (at : ℕ) → Gives (λ c. goodColumn (enteredColumn c) ≡ true) (columnAt s at)
+  pub gives-column : (at : ℕ) → Gives (λ c. goodColumn (enteredColumn c) ≡ true) (columnAt s at)
   unfolding columnAt goodColumn canonicalDefault goodReference writable
   gives-column at =
       gives-then (λ t. goodName t ≡ true) Q (nameAt s at) _ (gives-name at)
@@ -155,7 +155,7 @@ module _ (s : List ℕ) (h : Bytes s) where
     abbrev Fine : Request → Type 0
     Fine q = readable p q ≡ true
 
-    gives-create : (at : ℕ) → Gives Fine (createAt s p at)
+    pub gives-create : (at : ℕ) → Gives Fine (createAt s p at)
     unfolding createAt readable goodTable
     gives-create at =
         gives-then (λ t. goodName t ≡ true) Fine (nameAt s at) _ (gives-name at)

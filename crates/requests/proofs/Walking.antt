@@ -22,7 +22,7 @@ abbrev Ended : Walked → Type 0
 Ended (Ends n) = Unit {0}
 Ended (Breaks x) = ⊥
 
-abbrev offset : Walked → ℕ
+abbrev pub offset : Walked → ℕ
 offset (Ends n) = n
 offset (Breaks x) = x
 

@@ -35,7 +35,7 @@ answerLine r =
     (110 ∷ 111 ∷ space
     ∷ (decimal (numberOf (r .kind)) ++ (space ∷ (decimal (r .at) ++ (space ∷ (decimal (cond (r .gone) 1 0) ++ (newline ∷ [])))))))
 
--- the longest answer: `no`, three numbers of at most 20 digits after spaces, a newline
+-- the longest answer line: `no`, three numbers of at most 20 digits after spaces, a newline
 abbrev pub answerMost : ℕ
 answerMost = 66
 
@@ -46,3 +46,7 @@ linesOf w = rowLines (w .lines) ++ answerLine (w .reply)
 unfoldable pub stream : List Written → List ℕ
 stream [] = []
 stream (w ∷ ws) = linesOf w ++ stream ws
+
+-- the longest row line: `row`, eight values of at most 50 bytes after spaces, a newline
+abbrev pub rowMost : ℕ
+rowMost = 412

@@ -1,14 +1,21 @@
-// An answer as a line: `ok N` or `no CODE AT GONE`.
+// Single lines: an answer, `ok N` or `no CODE AT GONE`; a row, `row` and its values.
 use rules::answer;
 use rules::answer::Answer;
+use rules::profile::Profile;
+use store::row;
 use values::print;
+use values::value::Cell;
 ghost use mathlib.Core.Path.{_≡_};
 ghost use mathlib.Core.List.{[], _∷_, _++_};
-ghost use Prim.Native.Nat.{_+_, _≤_};
+ghost use Prim.Native.Nat.{_+_, _≤_, _<_};
 ghost use lib.ListN.{length, take};
 ghost use Rattle.values.specs.Print.{decimal, Front};
+ghost use Rattle.values.specs.Meaning.{held, ProperCell};
+ghost use Rattle.rules.specs.Layout.{parse};
 ghost use Rattle.rules.specs.Request.{said};
-ghost use Rattle.requests.specs.Lines.{space, newline, answerLine, answerMost};
+ghost use Rattle.store.specs.Store.{LaidStore};
+ghost use Rattle.store.specs.Row.{rowIn};
+ghost use Rattle.requests.specs.Lines.{space, newline, rowLine, rowMost, answerLine, answerMost};
 
 // A space and a number from a position on; returns where they end.
 fn put_spaced(out: &mut [u8], from: usize, m: u64) -> usize
@@ -51,4 +58,46 @@ pub fn put_answer(out: &mut [u8], a: Answer) -> usize
         return put_last(out, m, 1);
     }
     put_last(out, m, 0)
+}
+
+// A line of one value.
+pub fn put_single(out: &mut [u8], c: Cell) -> usize
+    requires { ⌜ (rowMost ≤ length (now out)) × ProperCell c ⌝ }
+    ensures { λ r. ⌜ Front (rowLine (held c ∷ [])) (now (out .entry)) (now (out .exit)) r × (r ≤ rowMost) ⌝ }
+{
+    out[0] = 114;
+    out[1] = 111;
+    out[2] = 119;
+    out[3] = 32;
+    let n = 4 + print::print_value(&mut out[4..], c);
+    out[n] = 10;
+    n + 1
+}
+
+// The line of the row at place i of a table with `columns` columns.
+pub fn put_row(
+    s: &[u8],
+    p: Profile,
+    places: usize,
+    i: usize,
+    columns: usize,
+    out: &mut [u8],
+) -> usize
+    requires { ⌜ LaidStore p places (now s) × (i < length ((parse p places (now s)) .rows)) × (columns ≡ length ((rowIn p places (now s) i) .cells)) × (columns ≤ 8) × (rowMost ≤ length (now out)) ⌝ }
+    ensures { λ r. ⌜ Front (rowLine ((rowIn p places (now (s .entry)) i) .cells)) (now (out .entry)) (now (out .exit)) r × (r ≤ rowMost) ⌝ }
+{
+    out[0] = 114;
+    out[1] = 111;
+    out[2] = 119;
+    let mut n = 3;
+    let mut j = 0;
+    while j < columns {
+        out[n] = 32;
+        let from = n + 1;
+        let c = row::cell_at(s, p, places, i, j);
+        n = from + print::print_value(&mut out[from..], c);
+        j += 1;
+    }
+    out[n] = 10;
+    n + 1
 }

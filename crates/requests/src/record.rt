@@ -1,7 +1,7 @@
 // Whether a record's bytes, from the version byte on, say a request, and else the offset of the first byte that could not be accepted. Nothing is
 // built: the bytes are walked in place.
+use super::reader;
 use rules::profile::Profile;
-use values::read;
 use values::read::ReadCell;
 use values::read::ReadName;
 ghost use mathlib.Core.Path.{_≡_};
@@ -21,7 +21,7 @@ pub enum Walked {
 }
 
 // The byte at a position, 0 past the end.
-fn byte_of(s: &[u8], at: usize) -> u8
+pub fn byte_of(s: &[u8], at: usize) -> u8
     ensures { λ r. ⌜ r ≡ getD (now (s .entry)) at 0 ⌝ }
 {
     if at < s.len() { s[at] } else { 0 }
@@ -56,16 +56,16 @@ fn byte_within(s: &[u8], low: usize, high: usize, at: usize) -> Walked
 fn name_end(s: &[u8], at: usize) -> Walked
     ensures { λ r. ⌜ r ≡ walkedAs (nameAt (now (s .entry)) at) ⌝ }
 {
-    match read::name_at(s, at) {
+    match reader::name_at(s, at) {
         ReadName::Named { name: _, next } => Walked::Ends(next),
         ReadName::Bad(x) => Walked::Breaks(x),
     }
 }
 
-fn value_end(s: &[u8], at: usize) -> Walked
+pub fn value_end(s: &[u8], at: usize) -> Walked
     ensures { λ r. ⌜ r ≡ walkedAs (valueAt (now (s .entry)) at) ⌝ }
 {
-    match read::value_at(s, at) {
+    match reader::value_at(s, at) {
         ReadCell::Got { cell: _, next } => Walked::Ends(next),
         ReadCell::Broken(x) => Walked::Breaks(x),
     }
@@ -112,7 +112,7 @@ fn some_values(s: &[u8], n: u8, at: usize) -> Walked
 }
 
 // A count byte and as many values.
-fn values_end(s: &[u8], at: usize) -> Walked
+pub fn values_end(s: &[u8], at: usize) -> Walked
     ensures { λ r. ⌜ r ≡ walkedAs (valuesAt (now (s .entry)) at) ⌝ }
 {
     let a = match byte_end(s, at) {
@@ -248,7 +248,7 @@ fn map_columns_end(s: &[u8], at: usize) -> Walked
 }
 
 // A map byte, and the map if there is one.
-fn map_end(s: &[u8], at: usize) -> Walked
+pub fn map_end(s: &[u8], at: usize) -> Walked
     ensures { λ r. ⌜ r ≡ walkedAs (mapAt (now (s .entry)) at) ⌝ }
 {
     let a = match byte_within(s, 0, 1, at) {

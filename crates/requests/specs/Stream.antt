@@ -1,0 +1,115 @@
+-- Records over a lent store (document 01, "Requests"): one whole record, and a stream of them with the text of their lines. Assumes nothing.
+use Prim.Native.Nat.{ℕ, zero, suc, _-_, _≤_, _<_}
+use mathlib.Core.Path.{_≡_}
+use mathlib.Core.Bool.{Bool, true, false, cond}
+use mathlib.Core.List.{List, [], _∷_, _++_}
+use lib.Dec.{eqb, leb}
+use lib.ListN.{length, take, drop}
+use Rattle.values.specs.Read.{Read, broken}
+use Rattle.values.specs.Print.{Front}
+use Rattle.rules.specs.declared.profile.Profile.{Profile}
+use Rattle.rules.specs.declared.answer.Answer.{Answer}
+use Rattle.rules.specs.declared.answer.Refusal.the-variants.{StoreUnsound}
+use Rattle.rules.specs.State.{State}
+use Rattle.rules.specs.Layout.{image, parse, placesOf}
+use Rattle.rules.specs.Request.{Request, said, no}
+use Rattle.rules.specs.Step.{Outcome, applyAll, refused}
+use Rattle.rules.specs.Sound.{sound}
+use Rattle.requests.specs.declared.frame.Framed.{Framed}
+use Rattle.requests.specs.declared.frame.Framed.the-variants.{Whole, Skip, More, Cut, Done}
+use Rattle.requests.specs.declared.entry.Halt.the-variants.{Full, Waiting, Stopped, Unsound}
+use Rattle.requests.specs.declared.entry.Ran.{Ran}
+use Rattle.requests.specs.declared.lines.Put.{Put}
+use Rattle.requests.specs.Record.{requestOf}
+use Rattle.requests.specs.Frame.{framed}
+use Rattle.requests.specs.Lines.{rowMost, answerLine, answerMost}
+use Rattle.requests.specs.Told.{outcomeOf}
+use Rattle.requests.specs.Places.{textFrom, Wrote}
+
+-- ---- one record, its two length bytes included; shorter or longer than its length says it is broken
+
+abbrev pub wholeAs : Profile → List ℕ → Framed → Read Request
+wholeAs p rec (Whole n) = cond (eqb n (length rec)) (requestOf (drop 2 rec) p) (broken 0)
+wholeAs p rec (Skip n) = broken 0
+wholeAs p rec More = broken 0
+wholeAs p rec Cut = broken 0
+wholeAs p rec Done = broken 0
+
+unfoldable pub wholeOf : Profile → List ℕ → Read Request
+wholeOf p rec = wholeAs p rec (framed rec true)
+
+-- an unsound store: 38 and unchanged; else the record's outcome
+unfoldable pub lentOutcome : Profile → List ℕ → Read Request → Outcome
+lentOutcome p s q = cond (sound p s) (outcomeOf p (placesOf p s) (parse p (placesOf p s) s) q) (refused (no StoreUnsound 0))
+
+unfoldable pub lentAfter : Profile → List ℕ → Outcome → List ℕ
+lentAfter p s o = cond (sound p s) (image p (placesOf p s) (applyAll (o .changes) (parse p (placesOf p s) s))) s
+
+pub record Lent (p : Profile) (q : Read Request) (before after : List ℕ) (a : Answer) : Type 0 where
+  pub answer : said a ≡ (lentOutcome p before q) .reply
+  pub bytes : after ≡ lentAfter p before (lentOutcome p before q)
+
+-- ---- many: what the records of an input say; one of bad length or cut off is broken
+
+abbrev pub inFrame : Profile → List ℕ → Framed → (ℕ → List (Read Request)) → List (Read Request)
+inFrame p s (Whole k) rest = requestOf (take (k - 2) (drop 2 s)) p ∷ rest k
+inFrame p s (Skip k) rest = broken 0 ∷ rest k
+inFrame p s More rest = []
+inFrame p s Cut rest = broken 0 ∷ []
+inFrame p s Done rest = []
+
+-- at the most n of them
+unfoldable pub someRecords : Profile → ℕ → List ℕ → Bool → List (Read Request)
+someRecords p zero s ended = []
+someRecords p (suc n) s ended = inFrame p s (framed s ended) (λ k. someRecords p n (drop k s) ended)
+
+-- each takes a byte at the least
+unfoldable pub recordsIn : Profile → List ℕ → Bool → List (Read Request)
+recordsIn p s ended = someRecords p (length s) s ended
+
+-- ---- the text of their lines, `i` row lines of the first being written already, and the state after them
+
+unfoldable pub textOf : Profile → ℕ → State → List (Read Request) → ℕ → List ℕ
+textOf p R s [] i = []
+textOf p R s (q ∷ qs) i =
+    let o : Outcome = outcomeOf p R s q in
+    textFrom o i ++ textOf p R (applyAll (o .changes) s) qs 0
+
+unfoldable pub stateOf : Profile → ℕ → State → List (Read Request) → State
+stateOf p R s [] = s
+stateOf p R s (q ∷ qs) = stateOf p R (applyAll ((outcomeOf p R s q) .changes) s) qs
+
+-- ---- one of them answered: its lines, as many as fit, and every byte of the store; where not all fit it was a read
+
+pub record Answered (p : Profile) (R : ℕ) (q : Read Request) (i : ℕ) (before after out done : List ℕ) (r : Put) : Type 0 where
+  pub wrote : Wrote (outcomeOf p R (parse p R before) q) i out done r
+  pub bytes : after ≡ image p R (applyAll ((outcomeOf p R (parse p R before) q) .changes) (parse p R before))
+  pub again : r .done ≡ false → (outcomeOf p R (parse p R before) q) .changes ≡ []
+
+-- ---- a run over a sound store: `count` records are answered, and what is left of the input and of the text is told
+
+-- the state behind the records that are answered, and the records that are left
+abbrev pub stateThen : Profile → ℕ → List ℕ → Bool → List ℕ → ℕ → State
+stateThen p R input ended before n = stateOf p R (parse p R before) (take n (recordsIn p input ended))
+
+abbrev pub recordsLeft : Profile → List ℕ → Bool → ℕ → List (Read Request)
+recordsLeft p input ended n = drop n (recordsIn p input ended)
+
+pub record Runs (p : Profile) (R : ℕ) (input : List ℕ) (ended : Bool) (i : ℕ) (before after out done : List ℕ) (r : Ran) : Type 0 where
+  pub rest : recordsIn p (drop (r .taken) input) ended ≡ recordsLeft p input ended (r .count)
+  pub bytes : after ≡ image p R (stateThen p R input ended before (r .count))
+  pub text : textOf p R (parse p R before) (recordsIn p input ended) i ≡ take (r .written) done ++ textOf p R (stateThen p R input ended before (r .count)) (recordsLeft p input ended (r .count)) (r .lines)
+  pub front : done ≡ take (r .written) done ++ drop (r .written) out
+  pub full : r .halt ≡ Full → length out - r .written < rowMost
+  pub waits : r .halt ≡ Waiting → recordsLeft p input ended (r .count) ≡ []
+  pub stops : r .halt ≡ Stopped → recordsLeft p input ended (r .count) ≡ []
+
+-- an unsound store: 38 once, where its line has room; no record is read
+pub record Refuses (before after out done : List ℕ) (r : Ran) : Type 0 where
+  pub halt : r .halt ≡ Unsound
+  pub bytes : after ≡ before
+  pub line : Front (cond (leb answerMost (length out)) (answerLine (no StoreUnsound 0)) []) out done (r .written)
+
+pub record Many (p : Profile) (input : List ℕ) (ended : Bool) (i : ℕ) (before after out done : List ℕ) (r : Ran) : Type 0 where
+  pub runs : sound p before ≡ true → Runs p (placesOf p before) input ended i before after out done r
+  pub refuses : sound p before ≡ false → Refuses before after out done r

@@ -1,0 +1,233 @@
+// The entries: one record over a lent store, and many records over a store tested once. They take any bytes whatever.
+use super::frame;
+use super::frame::Framed;
+use super::line;
+use super::lines;
+use super::lines::Put;
+use super::operate;
+use super::record;
+use super::record::Walked;
+use rules::answer;
+use rules::answer::Answer;
+use rules::answer::Refusal;
+use rules::profile;
+use rules::profile::Profile;
+use sound::fresh;
+use sound::soundness;
+ghost use mathlib.Core.Path.{_≡_};
+ghost use mathlib.Core.Bool.{true};
+ghost use Prim.Native.Nat.{_≤_};
+ghost use lib.ListN.{length};
+ghost use Rattle.values.specs.Print.{Front};
+ghost use Rattle.rules.specs.Profile.{full};
+ghost use Rattle.rules.specs.Request.{said};
+ghost use Rattle.store.specs.Store.{Store};
+ghost use Rattle.requests.specs.Record.{requestOf};
+ghost use Rattle.requests.specs.Lines.{rowMost, answerLine};
+ghost use Rattle.requests.specs.Stream.{wholeOf, Lent, Answered, Runs, Many};
+
+// Why a run came to its end.
+pub enum Halt {
+    // the output has no room for the next line
+    Full,
+    // more bytes are needed
+    Waiting,
+    // the input is at its end, or was cut off
+    Stopped,
+    // the store is not sound
+    Unsound,
+}
+
+// How far a run came: bytes of the input passed, bytes to pass over in what follows it, records answered, bytes written, and how many row lines of
+// the next record are written.
+pub struct Ran {
+    pub halt: Halt,
+    pub taken: usize,
+    pub skip: usize,
+    pub count: usize,
+    pub written: usize,
+    pub lines: usize,
+}
+
+// One record, its two length bytes included, over a lent store: 38; 1; the request's own answer.
+pub fn one(s: &mut [u8], rec: &[u8]) -> Answer
+    ensures { λ r. ⌜ Lent full (wholeOf full (now (rec .entry))) (now (s .entry)) (now (s .exit)) r ⌝ }
+{
+    if !soundness::is_sound(s) {
+        return answer::refused(Refusal::StoreUnsound, 0);
+    }
+    let places = fresh::places_of(s, profile::FULL);
+    match frame::next_record(rec, true) {
+        Framed::Whole(n) => {
+            if n != rec.len() {
+                return answer::refused(Refusal::RecordBroken, 0);
+            }
+            operate::execute(s, profile::FULL, places, &rec[2..n])
+        }
+        _ => answer::refused(Refusal::RecordBroken, 0),
+    }
+}
+
+// A line for an answer that has no row lines.
+fn put_only(out: &mut [u8], a: Answer) -> Put
+    requires { ⌜ rowMost ≤ length (now out) ⌝ }
+    ensures { λ r. ⌜ Front (answerLine (said a)) (now (out .entry)) (now (out .exit)) (r .written) × (r .lines ≡ 0) × (r .done ≡ true) ⌝ }
+{
+    Put {
+        written: line::put_answer(out, a),
+        lines: 0,
+        done: true,
+    }
+}
+
+// The request that a record says, from the version byte on, carried out and its lines written, `from` of its row lines being written already. Where
+// not all of them fit, it was a read, and can be asked again.
+fn answer_record(
+    s: &mut [u8],
+    p: Profile,
+    places: usize,
+    rec: &[u8],
+    from: usize,
+    out: &mut [u8],
+) -> Put
+    requires { ⌜ Store p places (now s) × (p .columns ≤ 8) × (rowMost ≤ length (now out)) ⌝ }
+    ensures { λ r. ⌜ Answered p places (requestOf (now (rec .entry)) p) from (now (s .entry)) (now (s .exit)) (now (out .entry)) (now (out .exit)) r ⌝ }
+{
+    match record::walk(rec, p) {
+        Walked::Breaks(_) => put_only(out, answer::refused(Refusal::RecordBroken, 0)),
+        Walked::Ends(_) => {
+            let k = record::byte_of(rec, 1);
+            if 5 < k {
+                let a = operate::ask(s, p, places, rec, k);
+                return lines::put_lines(s, p, places, rec, a, from, out);
+            }
+            let a = operate::write(s, p, places, rec, k);
+            put_only(out, a)
+        }
+    }
+}
+
+// The records of an input one after the other, `from` row lines of the first being written already.
+fn run(
+    s: &mut [u8],
+    p: Profile,
+    places: usize,
+    input: &[u8],
+    ended: bool,
+    from: usize,
+    out: &mut [u8],
+) -> Ran
+    requires { ⌜ Store p places (now s) × (p .columns ≤ 8) ⌝ }
+    ensures { λ r. ⌜ Runs p places (now (input .entry)) ended from (now (s .entry)) (now (s .exit)) (now (out .entry)) (now (out .exit)) r ⌝ }
+{
+    let mut taken = 0;
+    let mut skip = 0;
+    let mut count = 0;
+    let mut written = 0;
+    let mut lines = from;
+    while 412 <= out.len() - written {
+        match frame::next_record(&input[taken..], ended) {
+            Framed::Whole(n) => {
+                let a = taken + 2;
+                let e = taken + n;
+                let put = answer_record(s, p, places, &input[a..e], lines, &mut out[written..]);
+                written += put.written;
+                lines = put.lines;
+                if !put.done {
+                    return Ran {
+                        halt: Halt::Full,
+                        taken,
+                        skip,
+                        count,
+                        written,
+                        lines,
+                    };
+                }
+                taken = e;
+                count += 1;
+                lines = 0;
+            }
+            Framed::Skip(n) => {
+                let put = put_only(
+                    &mut out[written..],
+                    answer::refused(Refusal::RecordBroken, 0),
+                );
+                written += put.written;
+                count += 1;
+                lines = 0;
+                let left = input.len() - taken;
+                if left < n {
+                    skip = n - left;
+                    taken = input.len();
+                } else {
+                    taken += n;
+                }
+            }
+            Framed::More => {
+                return Ran {
+                    halt: Halt::Waiting,
+                    taken,
+                    skip,
+                    count,
+                    written,
+                    lines,
+                };
+            }
+            Framed::Cut => {
+                let put = put_only(
+                    &mut out[written..],
+                    answer::refused(Refusal::RecordBroken, 0),
+                );
+                return Ran {
+                    halt: Halt::Stopped,
+                    taken: input.len(),
+                    skip,
+                    count: count + 1,
+                    written: written + put.written,
+                    lines: 0,
+                };
+            }
+            Framed::Done => {
+                return Ran {
+                    halt: Halt::Stopped,
+                    taken,
+                    skip,
+                    count,
+                    written,
+                    lines,
+                };
+            }
+        }
+    }
+    Ran {
+        halt: Halt::Full,
+        taken,
+        skip,
+        count,
+        written,
+        lines,
+    }
+}
+
+// Many records over a lent store that is tested once: 38 once, or each record's lines, `from` row lines of the first being written already. `ended`
+// says that the input has no more bytes than these.
+pub fn many(s: &mut [u8], input: &[u8], ended: bool, from: usize, out: &mut [u8]) -> Ran
+    ensures { λ r. ⌜ Many full (now (input .entry)) ended from (now (s .entry)) (now (s .exit)) (now (out .entry)) (now (out .exit)) r ⌝ }
+{
+    if !soundness::is_sound(s) {
+        let mut written = 0;
+        if 66 <= out.len() {
+            written = line::put_answer(out, answer::refused(Refusal::StoreUnsound, 0));
+        }
+        return Ran {
+            halt: Halt::Unsound,
+            taken: 0,
+            skip: 0,
+            count: 0,
+            written,
+            lines: from,
+        };
+    }
+    let places = fresh::places_of(s, profile::FULL);
+    run(s, profile::FULL, places, input, ended, from, out)
+}

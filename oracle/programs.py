@@ -1,0 +1,34 @@
+"""The built programs, run as the toolchain runs them."""
+
+import os
+import platform
+import shutil
+import subprocess
+
+ROOT = os.path.join(os.path.dirname(os.path.abspath(__file__)), "..")
+
+
+def command(name):
+    """The words that start a program: under the toolchain's loader and, on a machine that is no x86-64, its emulator."""
+    kit = os.environ.get("RATTLE_HOME") or os.path.dirname(os.path.dirname(os.path.realpath(shutil.which("rt"))))
+    tools = os.path.join(kit, "on", platform.machine(), "toolchain")
+    emulator = os.path.join(tools, "bin", "qemu-x86_64")
+    words = [emulator] if os.access(emulator, os.X_OK) else []
+    library = os.path.join(tools, "lib")
+    return words + [os.path.join(library, "ld-linux-x86-64.so.2"), "--library-path", library, os.path.join(ROOT, "target", "bin", name)]
+
+
+def kiosk(source):
+    """The lines of records over a fresh store with 70 row places."""
+    return subprocess.run(command("kiosk"), input=source, stdout=subprocess.PIPE, check=True, timeout=600).stdout
+
+
+def lent(store, source, folder):
+    """The lines of records over a lent store, and its bytes afterwards."""
+    names = [os.path.join(folder, name) for name in ("store", "records", "after")]
+    for name, data in zip(names, (store, source)):
+        with open(name, "wb") as f:
+            f.write(data)
+    done = subprocess.run(command("lent") + names, stdout=subprocess.PIPE, check=True, timeout=600)
+    with open(names[2], "rb") as f:
+        return done.stdout, f.read()
