@@ -3,8 +3,9 @@
 
   pace.py    a table: requests down, R = 64, 256, 1,024 and 4,096 across
 
-Each count is that of `lent` with the request less that of `lent` with none, under callgrind: the same on every run. The test of the whole store
-for soundness is in both, and is shown by itself. `valgrind` must be there, and `lent` built (`rt check lent`).
+Each count is that of `lent` with the request less that of `lent` with a record that is broken (1), under callgrind: the same on every run. `lent` tests
+the whole store before and after it, which is in both and shown by itself: of the broken record the mean over the store before and the store
+after the request is taken. `valgrind` must be there, and `lent` built (`rt check lent`).
 """
 
 import os
@@ -20,6 +21,7 @@ from values import Schema, State
 from writer import record
 
 SIZES = [64, 256, 1024, 4096]
+BROKEN = bytes([0, 2, 1, 0])  # an operation that there is not
 
 
 def filled(places):
@@ -69,11 +71,14 @@ def main():
             state, plans, points = filled(places)
             store = image(state)
             nothing, _ = instructions(store, b"", folder)
+            broken, _ = instructions(store, BROKEN, folder)
             unsound, _ = instructions(b"\xff" + store[1:], b"", folder)
             table.setdefault("test the store for soundness", []).append(nothing - unsound)
             for words, source in requests(plans, points):
                 count, lines = instructions(store, source, folder)
-                table.setdefault(words, []).append(count - nothing)
+                with open(os.path.join(folder, "after"), "rb") as f:
+                    after, _ = instructions(f.read(), BROKEN, folder)
+                table.setdefault(words, []).append(count - (broken + after) // 2)
                 told.setdefault(words, []).append(lines.count("\n"))
     print("| request | %s |" % " | ".join("R = {:,}".format(places) for places in SIZES))
     print("|---|" + "---:|" * len(SIZES))
