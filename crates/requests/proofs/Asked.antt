@@ -37,6 +37,7 @@ use Rattle.requests.specs.Told.{Acted, Replied}
 use Rattle.requests.specs.Walked.{walkedAs}
 use Rattle.requests.proofs.Walking.{unknown}
 use Rattle.store.proofs.KeysRead.{values-end, values-got, values-broken}
+use Rattle.requests.proofs.Operands.{named-then, unnamed}
 use Rattle.requests.proofs.ValuesFrom.{was-got, got-gives, parted, byte-there, values-there, values-inside}
 
 -- ---- keys found, one by one
@@ -110,36 +111,28 @@ module _ (p : Profile) (R : ℕ) (st : State) (q : Request) (a : Answer) where
 -- ---- what stands behind a name, where nothing broke
 
 module _ (s : List ℕ) (from : ℕ) (nm : ReadName) (e : NameRead s from nm) where
-  name-bad : {B : Type 0} (f : List ℕ → ℕ → Read B) (x : ℕ) → nm ≡ Bad x → isGot (andThen (nameAt s from) f) ≡ true → ⊥
-  unfolding andThen isGot
-  name-bad f x h g = true≢false (sym g ∙ ap (λ (w : Read (List ℕ)). isGot (andThen w f)) (sym (e .is) ∙ ap nameRead h))
-
   pub keys-unbroken : (make : List ℕ → List Value → Request) (x : ℕ) → nm ≡ Bad x → isGot (keysAt s make from) ≡ true → ⊥
   unfolding keysAt
-  keys-unbroken make x h g = name-bad _ x h g
+  keys-unbroken make x h g = unnamed s from nm e _ x h g
 
   pub lookup-unbroken : (x : ℕ) → nm ≡ Bad x → isGot (lookupAt s from) ≡ true → ⊥
   unfolding lookupAt
-  lookup-unbroken x h g = name-bad _ x h g
+  lookup-unbroken x h g = unnamed s from nm e _ x h g
 
   pub scan-unbroken : (x : ℕ) → nm ≡ Bad x → isGot (scanAt s from) ≡ true → ⊥
   unfolding scanAt
-  scan-unbroken x h g = name-bad _ x h g
+  scan-unbroken x h g = unnamed s from nm e _ x h g
 
   module _ (t : Text) (q : ℕ) (h : nm ≡ Named t q) where
     pub name-proper : Packed t
     name-proper = rw h at (e .proper)
-
-    past-name : {B : Type 0} (f : List ℕ → ℕ → Read B) → andThen (nameAt s from) f ≡ f (textBytes t) q
-    unfolding andThen
-    past-name f = ap (λ (w : Read (List ℕ)). andThen w f) (sym (e .is) ∙ ap nameRead h)
 
     -- a table and keys
     module _ (make : List ℕ → List Value → Request) (g : isGot (keysAt s make from) ≡ true) where
       keys-told : (q < length s) × (gotOr Names (keysAt s make from) ≡ make (textBytes t) (valuesFrom s (getD s q 0) (q + 1)))
       unfolding keysAt
       keys-told =
-          let d = past-name (λ name a. andThen (valuesAt s a) (λ ks b. got (make name ks) b)) in
+          let d = named-then s from nm e (λ name a. andThen (valuesAt s a) (λ ks b. got (make name ks) b)) t q h in
           let w = was-got (keysAt s make from) g in
           let u = parted (valuesAt s q) _ (w .what) (w .end) (sym d ∙ w .is) in (
             values-inside s q (u .first) (u .next) (u .is),
@@ -164,7 +157,7 @@ module _ (s : List ℕ) (from : ℕ) (nm : ReadName) (e : NameRead s from nm) wh
       lookup-told : (q + 1 < length s) × (gotOr Names (lookupAt s from) ≡ Lookup (textBytes t) (getD s q 0) (valuesFrom s (getD s (q + 1) 0) (q + 2)))
       unfolding lookupAt
       lookup-told =
-          let d = past-name (λ name a. andThen (byteAt s a) (λ i b. andThen (valuesAt s b) (λ vs c. got (Lookup name i vs) c))) in
+          let d = named-then s from nm e (λ name a. andThen (byteAt s a) (λ i b. andThen (valuesAt s b) (λ vs c. got (Lookup name i vs) c))) t q h in
           let w = was-got (lookupAt s from) g in
           let x = parted (byteAt s q) _ (w .what) (w .end) (sym d ∙ w .is) in
           let b = byte-there s q (x .first) (x .next) (x .is) in
@@ -196,7 +189,7 @@ module _ (s : List ℕ) (from : ℕ) (nm : ReadName) (e : NameRead s from nm) wh
     -- a table
     scan-is : gotOr Names (scanAt s from) ≡ Scan (textBytes t)
     unfolding scanAt
-    scan-is = got-gives Names (scanAt s from) (Scan (textBytes t)) q (past-name (λ name a. got (Scan name) a))
+    scan-is = got-gives Names (scanAt s from) (Scan (textBytes t)) q (named-then s from nm e (λ name a. got (Scan name) a) t q h)
 
     pub scan-says : (p : Profile) (R : ℕ) (st : State) (a : Answer) (x : Span) → Spans (st .rows) (textBytes t) x → said a ≡ ok (x .to - x .from)
         → said a ≡ (act p R st (gotOr Names (scanAt s from))) .reply

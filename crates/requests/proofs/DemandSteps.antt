@@ -21,7 +21,7 @@ use Rattle.rules.specs.Sound.{sound}
 use Rattle.rules.specs.Readable.{readable}
 use Rattle.rules.proofs.Valid.{Valid, valid-of, valid-laid}
 use Rattle.rules.proofs.Kept.{step-valid}
-use Rattle.rules.proofs.Bytewise.{bytes-nil, bytes-cons}
+use Rattle.values.proofs.Packing.{take-bytes}
 use Rattle.rules.proofs.Whole.{sound-image}
 use Rattle.store.specs.Store.{Stored}
 use Rattle.requests.specs.declared.frame.Framed.{Framed}
@@ -37,11 +37,6 @@ use Rattle.requests.proofs.Read.{Gives, gives, gives-broken, read-reada
 bytes-drop : (n : ℕ) (s : List ℕ) → Bytes s → Bytes (drop n s)
 bytes-drop n s h i = subst (λ (x : ℕ). x < 256) (sym (getD-drop n s i 0)) (h (n + i))
 
-bytes-take : (n : ℕ) (s : List ℕ) → Bytes s → Bytes (take n s)
-bytes-take zero s h = bytes-nil
-bytes-take (suc n) [] h = bytes-nil
-bytes-take (suc n) (x ∷ s) h = bytes-cons x (take n s) (h 0) (bytes-take n s (λ i. h (suc i)))
-
 module _ (p : Profile) where
   -- ---- what the records of bytes say is readable
 
@@ -52,7 +47,7 @@ module _ (p : Profile) where
   record-readable s h = gives (λ q. readable p q ≡ true) (requestOf s p) (λ q n e. read-readable s h p q n e)
 
   frame-readable : (s : List ℕ) (f : Framed) (rest : ℕ → List (Read Request)) → Bytes s → ((k : ℕ) → All Readable (rest k)) → All Readable (inFrame p s f rest)
-  frame-readable s (Whole k) rest h g = (record-readable (take (k - 2) (drop 2 s)) (bytes-take (k - 2) (drop 2 s) (bytes-drop 2 s h)), g k)
+  frame-readable s (Whole k) rest h g = (record-readable (take (k - 2) (drop 2 s)) (take-bytes (k - 2) (drop 2 s) (bytes-drop 2 s h)), g k)
   frame-readable s (Skip k) rest h g = (gives-broken (λ q. readable p q ≡ true) 0, g k)
   frame-readable s More rest h g = tt
   frame-readable s Cut rest h g = (gives-broken (λ q. readable p q ≡ true) 0, tt)

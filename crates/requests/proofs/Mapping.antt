@@ -40,6 +40,7 @@ use Rattle.requests.specs.declared.executor.Map.{Map}
 use Rattle.requests.specs.declared.record.Walked.the-variants.{Ends, Breaks}
 use Rattle.requests.specs.declared.record.Walked.{Walked}
 use Rattle.store.proofs.KeysRead.{values-end, values-got, values-broken}
+use Rattle.requests.proofs.Pairs.{all-more}
 use Rattle.requests.proofs.ValuesFrom.{was-got, got-is, got-gives, parted, headed, byte-there, from-there, values-there, values-inside}
 use Rattle.requests.proofs.Walking.{ends}
 
@@ -213,10 +214,6 @@ held-more : (xs : List Cell) (x : Cell) → map held (xs ++ (x ∷ [])) ≡ map 
 held-more [] x = refl
 held-more (y ∷ xs) x = ap (λ (vs : List Value). held y ∷ vs) (held-more xs x)
 
-all-more : (xs : List Cell) (x : Cell) → All ProperCell xs → ProperCell x → All ProperCell (xs ++ (x ∷ []))
-all-more [] x h p = (p, tt)
-all-more (y ∷ xs) x h p = (h .0, all-more xs x (h .1) p)
-
 -- the first j of eight cells hold the row's first values
 pub record Filling (g : ℕ → Option Value) (cols : List Column) (cells : List Cell) (j : ℕ) : Type 0 where
   pub eight : length cells ≡ 8
@@ -263,7 +260,7 @@ module _ (g : ℕ → Option Value) (cols : List Column) (cells : List Cell) (j 
         record {
           eight = length-set cells j x ∙ f .eight;
           within = omega arith;
-          proper = subst (All ProperCell) (sym t) (all-more (take j cells) x (f .proper) p);
+          proper = subst (All ProperCell) (sym t) (all-more ProperCell (take j cells) x (f .proper) p);
           rest =
               ap (λ (cs : List Cell). prefixed (map held cs) (fill g (j + 1) (drop (j + 1) cols))) t
               ∙ ap (λ (vs : List Value). prefixed vs (fill g (j + 1) (drop (j + 1) cols))) (held-more (take j cells) x)
