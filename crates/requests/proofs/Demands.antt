@@ -1,12 +1,14 @@
 -- What is demanded of the store, as theorems over any bytes of requests (steps to them are in DemandSteps.antt). `recordsIn full input ended` is
 -- what the records of an input say, broken ones too; a store is fresh with `empty`, and has R row places. Assumes nothing.
 use Prim.Native.Nat.{ℕ, _≤_}
+use native.Mathlib.Omega.{arith}
 use mathlib.Core.Path.{_≡_, refl, sym, _∙_, ap, subst}
 use mathlib.Core.Bool.{Bool, true, false, true≢false}
-use mathlib.Core.List.{List, [], _∷_, _++_}
-use lib.ListN.{take}
+use mathlib.Core.List.{List, [], _∷_, _++_, append-assoc}
+use lib.ListN.{length, take, drop}
 use Rattle.values.specs.Bytes.{Bytes}
 use Rattle.values.specs.Read.{Read, got, broken}
+use Rattle.rules.specs.declared.profile.Profile.{Profile}
 use Rattle.rules.specs.declared.answer.Answer.{Answer}
 use Rattle.rules.specs.declared.answer.Refusal.the-variants.{RecordBroken, StoreUnsound}
 use Rattle.rules.specs.Profile.{full, placesMost}
@@ -25,8 +27,8 @@ use Rattle.requests.specs.Got.{isGot}
 use Rattle.requests.specs.Lines.{rowLines, answerLine, linesOf, stream}
 use Rattle.requests.specs.Places.{textFrom}
 use Rattle.requests.specs.Told.{outcomeOf}
-use Rattle.requests.specs.Stream.{Lent, recordsIn, textOf, stateOf, Many}
-use Rattle.requests.proofs.DemandSteps.{input-readable, records-valid, valid-sound, lent-unsound, lent-sound}
+use Rattle.requests.specs.Stream.{Lent, recordsIn, bytesOf, textOf, stateOf, Many}
+use Rattle.requests.proofs.DemandSteps.{input-readable, records-valid, valid-sound, lent-unsound, lent-sound, pieces}
 
 -- the state after the first k records of an input, from a fresh store
 abbrev pub stateAfter : ℕ → List ℕ → Bool → ℕ → State
@@ -181,3 +183,21 @@ lent-unchanged x before after a l = go (sound full before) refl
     go : (b : Bool) → sound full before ≡ b → (isAccepted (said a) ≡ false) × (after ≡ before)
     go true e = let r = sound-answered (broken x) before after a l e in (ap isAccepted (r .answer), r .bytes ∙ image-parse full before e)
     go false e = let r = unsound-refused (broken x) before after a l e in (ap isAccepted (r .0), r .1)
+
+-- ---- 5. an input that comes in pieces is answered as if it came whole
+
+-- the records of the whole are those of its first piece, and then those of what is left behind the bytes that they took
+pub in-pieces : (p : Profile) (a more : List ℕ)
+    → recordsIn p (a ++ more) true ≡ recordsIn p a false ++ recordsIn p (drop (bytesOf (length (recordsIn p a false)) a false) (a ++ more)) true
+in-pieces p a more = pieces p more (length a) a (omega arith)
+
+-- and the text of all of them is that of the first ones, and then that of the others from the state that the first ones left
+pub text-in-pieces : (p : Profile) (R : ℕ) (s : State) (ws vs : List (Read Request))
+    → textOf p R s (ws ++ vs) 0 ≡ textOf p R s ws 0 ++ textOf p R (stateOf p R s ws) vs 0
+unfolding textOf stateOf
+text-in-pieces p R s [] vs = refl
+text-in-pieces p R s (w ∷ ws) vs =
+    let o : Outcome = outcomeOf p R s w in
+    let t : State = applyAll (o .changes) s in
+    ap (λ (l : List ℕ). textFrom o 0 ++ l) (text-in-pieces p R t ws vs)
+    ∙ sym (append-assoc (textFrom o 0) (textOf p R t ws 0) (textOf p R (stateOf p R t ws) vs 0))

@@ -97,7 +97,7 @@ not-whole p rec Done h = refl
 -- ---- many records over an unsound store
 
 module _ (input : List ℕ) (ended : Bool) (i : ℕ) (before out : List ℕ) (b : Bool) (e : b ≡ sound full before) (h : b ≡ false) where
-  unsound : (done : List ℕ) (r : Ran) → Refuses before before out done r → Many full input ended i before before out done r
+  unsound : (done : List ℕ) (r : Ran) → Refuses i before before out done r → Many full input ended i before before out done r
   unsound done r x = record { runs = λ s. absurd (true≢false (sym s ∙ sym e ∙ h)); refuses = λ s. x }
 
   pub many-told : (a : Answer) → said a ≡ no StoreUnsound 0 → (done : List ℕ) (n : ℕ) → 66 ≤ length out → Front (answerLine (said a)) out done n
@@ -106,6 +106,7 @@ module _ (input : List ℕ) (ended : Bool) (i : ℕ) (before out : List ℕ) (b 
       unsound done _
       (record {
         halt = refl;
+        nothing = (refl, refl, refl, refl);
         bytes = refl;
         line =
             subst (λ (z : List ℕ). Front z out done n)
@@ -118,6 +119,7 @@ module _ (input : List ℕ) (ended : Bool) (i : ℕ) (before out : List ℕ) (b 
       unsound out _
       (record {
         halt = refl;
+        nothing = (refl, refl, refl, refl);
         bytes = refl;
         line =
             subst (λ (z : List ℕ). Front z out out 0)

@@ -1,5 +1,5 @@
 -- The records of an input one after the other: each takes some bytes, and how far a run over them came. Assumes nothing.
-use Prim.Native.Nat.{ℕ, zero, suc, _+_, _-_, _≤_, _<_}
+use Prim.Native.Nat.{ℕ, zero, suc, _+_, _-_, _≤_, _<_, min}
 use native.Mathlib.Omega.{arith}
 use mathlib.Core.Path.{_≡_, refl, sym, ap, _∙_, subst}
 use mathlib.Core.Bool.{Bool, true, false, cond}
@@ -28,14 +28,14 @@ use Rattle.store.proofs.Written.{store-again, reads-back}
 use Rattle.requests.specs.declared.frame.Framed.{Framed}
 use Rattle.requests.specs.declared.frame.Framed.the-variants.{Whole, Skip, More, Cut, Done}
 use Rattle.requests.specs.declared.entry.Halt.{Halt}
-use Rattle.requests.specs.declared.entry.Halt.the-variants.{Full, Waiting, Stopped}
+use Rattle.requests.specs.declared.entry.Halt.the-variants.{Full, Waiting, Stopped, Unsound}
 use Rattle.requests.specs.declared.lines.Put.{Put}
 use Rattle.requests.specs.Record.{requestOf}
 use Rattle.requests.specs.Frame.{framed, lengthOf, leastLength, mostLength, short}
 use Rattle.requests.specs.Lines.{rowMost}
 use Rattle.requests.specs.Told.{outcomeOf}
 use Rattle.requests.specs.Places.{textFrom}
-use Rattle.requests.specs.Stream.{inFrame, someRecords, recordsIn, textOf, stateOf, Answered, stateThen, recordsLeft, Runs}
+use Rattle.requests.specs.Stream.{inFrame, someRecords, recordsIn, inBytes, bytesOf, textOf, stateOf, Answered, stateThen, recordsLeft, Runs}
 use Rattle.requests.proofs.Copied.{front-is, front-told}
 use Rattle.requests.proofs.Fronts.{front-length, front-then}
 
@@ -70,6 +70,64 @@ module _ (s : List ℕ) (ended : Bool) where
       (λ h.
       by-cond In (ltb (length s) (2 + lengthOf s)) _ _ (λ k. moves-short (omega arith))
       (λ k. (omega (arith, ltb-false (lengthOf s) leastLength g), omega (arith, ltb-false (length s) (2 + lengthOf s) k)))))))
+
+-- ---- a frame says whether the input has ended, where it holds no record that is whole
+
+abbrev Says : Bool → Framed → Type 0
+Says ended (Whole k) = Unit {0}
+Says ended (Skip k) = Unit {0}
+Says ended More = ended ≡ false
+Says ended Cut = ended ≡ true
+Says ended Done = ended ≡ true
+
+says : (s : List ℕ) (ended : Bool) → Says ended (framed s ended)
+unfolding framed
+says s ended =
+    let cut : Says ended (short ended) = by-cond (Says ended) ended Cut More (λ e. e) (λ e. e) in
+    by-cond (Says ended) (eqb (length s) 0) _ _ (λ e. by-cond (Says ended) ended Done More (λ f. f) (λ f. f))
+    (λ e.
+    by-cond (Says ended) (eqb (length s) 1) _ _ (λ f. cut)
+    (λ f.
+    by-cond (Says ended) (ltb (lengthOf s) leastLength) _ _ (λ g. tt)
+    (λ g.
+    by-cond (Says ended) (ltb mostLength (lengthOf s)) _ _ (λ h. tt)
+    (λ h. by-cond (Says ended) (ltb (length s) (2 + lengthOf s)) _ _ (λ k. cut) (λ k. tt)))))
+
+-- ---- how many bytes one record more takes
+
+bytes-one : (s : List ℕ) (ended : Bool) (f : Framed) → f ≡ framed s ended → bytesOf 1 s ended ≡ inBytes s f (λ k. 0)
+unfolding bytesOf
+bytes-one s ended f e = ap (λ (x : Framed). inBytes s x (λ k. 0)) (sym e)
+
+bytes-none : (ended : Bool) → bytesOf 1 [] ended ≡ 0
+unfolding bytesOf framed
+bytes-none true = refl
+bytes-none false = refl
+
+abbrev OneMore : ℕ → List ℕ → Bool → Type 0
+OneMore n s ended = bytesOf (suc n) s ended ≡ bytesOf n s ended + bytesOf 1 (drop (bytesOf n s ended) s) ended
+
+-- of a first record of k bytes
+bytes-behind : (k m : ℕ) (s : List ℕ) (ended : Bool) → OneMore m (drop k s) ended
+    → k + bytesOf (suc m) (drop k s) ended ≡ k + bytesOf m (drop k s) ended + bytesOf 1 (drop (k + bytesOf m (drop k s) ended) s) ended
+bytes-behind k m s ended ih =
+    let b : ℕ = bytesOf m (drop k s) ended in
+    let d : bytesOf 1 (drop b (drop k s)) ended ≡ bytesOf 1 (drop (k + b) s) ended = ap (λ (t : List ℕ). bytesOf 1 t ended) (drop-drop b k s) in
+    omega (arith, ih, d)
+
+bytes-step : (m : ℕ) (s : List ℕ) (ended : Bool) (f : Framed) → bytesOf 1 s ended ≡ inBytes s f (λ k. 0) → ((k : ℕ) → OneMore m (drop k s) ended)
+    → inBytes s f (λ k. bytesOf (suc m) (drop k s) ended)
+    ≡ inBytes s f (λ k. bytesOf m (drop k s) ended) + bytesOf 1 (drop (inBytes s f (λ k. bytesOf m (drop k s) ended)) s) ended
+bytes-step m s ended (Whole k) own ih = bytes-behind k m s ended (ih k)
+bytes-step m s ended (Skip k) own ih = bytes-behind k m s ended (ih k)
+bytes-step m s ended More own ih = omega (arith, own)
+bytes-step m s ended Cut own ih = omega (arith, ap (λ (t : List ℕ). bytesOf 1 t ended) (drop-length s) ∙ bytes-none ended)
+bytes-step m s ended Done own ih = omega (arith, own)
+
+bytes-more : (n : ℕ) (s : List ℕ) (ended : Bool) → OneMore n s ended
+unfolding bytesOf
+bytes-more zero s ended = omega arith
+bytes-more (suc n) s ended = bytes-step n s ended (framed s ended) (bytes-one s ended (framed s ended) refl) (λ k. bytes-more n (drop k s) ended)
 
 -- ---- as many records as there are bytes are enough
 
@@ -158,6 +216,16 @@ pub record Running (p : Profile) (R : ℕ) (input : List ℕ) (ended : Bool) (i 
   pub front : Front (take written done) out done written
   pub text : textOf p R (parse p R before) (recordsIn p input ended) i ≡ take written done ++ textOf p R (stateThen p R input ended before count) (recordsLeft p input ended count) lines
 
+-- what is passed of the input
+pub record Passed (p : Profile) (input : List ℕ) (ended : Bool) (taken skip count : ℕ) : Type 0 where
+  pub few : count ≤ length (recordsIn p input ended)
+  pub passed : taken ≡ min (bytesOf count input ended) (length input)
+  pub over : skip ≡ bytesOf count input ended - length input
+
+pub pass-start : (p : Profile) (input : List ℕ) (ended : Bool) → Passed p input ended 0 0 0
+unfolding bytesOf
+pass-start p input ended = record { few = omega arith; passed = omega arith; over = omega arith }
+
 module _ (p : Profile) (R : ℕ) (input : List ℕ) (ended : Bool) (i : ℕ) (before out : List ℕ) where
   pub run-start : Store p R before → Running p R input ended i before before out out 0 0 0 i
   unfolding stateOf
@@ -173,33 +241,50 @@ module _ (p : Profile) (R : ℕ) (input : List ℕ) (ended : Bool) (i : ℕ) (be
 
     -- ---- its end
 
-    ran : (h : Halt) (skip : ℕ) → (h ≡ Full → length out - written < rowMost) → (h ≡ Waiting → left ≡ []) → (h ≡ Stopped → left ≡ [])
-        → Runs p R input ended i before now out done (record { halt = h; taken = taken; skip = skip; count = count; written = written; lines = lines })
-    ran h skip f w s =
-        record {
-          rest = g .rest;
-          bytes = g .store .bytes ∙ ap (image p R) (g .state);
-          text = g .text;
-          front = g .front .bytes;
-          full = f;
-          waits = w;
-          stops = s;
-        }
+    module _ (skip : ℕ) (t : Passed p input ended taken skip count) where
+      ran : (h : Halt) → (h ≡ Full → length out - written < rowMost) → (h ≡ Waiting → (ended ≡ false) × (left ≡ [])) → (h ≡ Stopped → (ended ≡ true) × (left ≡ []))
+          → (h ≡ Unsound → ⊥)
+          → Runs p R input ended i before now out done (record { halt = h; taken = taken; skip = skip; count = count; written = written; lines = lines })
+      ran h f w s u =
+          record {
+            few = t .few;
+            passed = t .passed;
+            over = t .over;
+            rest = g .rest;
+            bytes = g .store .bytes ∙ ap (image p R) (g .state);
+            text = g .text;
+            front = g .front .bytes;
+            full = f;
+            waits = w;
+            stops = s;
+            tested = u;
+          }
 
-    pub ran-full : (skip : ℕ) → length done - written < rowMost → Runs p R input ended i before now out done (record { halt = Full; taken = taken; skip = skip; count = count; written = written; lines = lines })
-    ran-full skip l =
-        ran Full skip (λ e. omega (arith, g .long)) (λ e. let z : _≡_ {A = ℕ} 0 1 = cc in absurd (omega arith)) (λ e. let z : _≡_ {A = ℕ} 0 1 = cc in absurd (omega arith))
+      pub ran-full : length done - written < rowMost → Runs p R input ended i before now out done (record { halt = Full; taken = taken; skip = skip; count = count; written = written; lines = lines })
+      ran-full l =
+          ran Full (λ e. omega (arith, g .long)) (λ e. let z : _≡_ {A = ℕ} 0 1 = cc in absurd (omega arith)) (λ e. let z : _≡_ {A = ℕ} 0 1 = cc in absurd (omega arith))
+          (λ e. let z : _≡_ {A = ℕ} 0 1 = cc in absurd (omega arith))
 
-    pub ran-waiting : (skip : ℕ) → left ≡ [] → Runs p R input ended i before now out done (record { halt = Waiting; taken = taken; skip = skip; count = count; written = written; lines = lines })
-    ran-waiting skip l = ran Waiting skip (λ e. let z : _≡_ {A = ℕ} 0 1 = cc in absurd (omega arith)) (λ e. l) (λ e. l)
+      pub ran-waiting : ended ≡ false → left ≡ [] → Runs p R input ended i before now out done (record { halt = Waiting; taken = taken; skip = skip; count = count; written = written; lines = lines })
+      ran-waiting n l =
+          ran Waiting (λ e. let z : _≡_ {A = ℕ} 0 1 = cc in absurd (omega arith)) (λ e. (n, l)) (λ e. let z : _≡_ {A = ℕ} 0 1 = cc in absurd (omega arith))
+          (λ e. let z : _≡_ {A = ℕ} 0 1 = cc in absurd (omega arith))
 
-    pub ran-stopped : (skip : ℕ) → left ≡ [] → Runs p R input ended i before now out done (record { halt = Stopped; taken = taken; skip = skip; count = count; written = written; lines = lines })
-    ran-stopped skip l = ran Stopped skip (λ e. let z : _≡_ {A = ℕ} 0 1 = cc in absurd (omega arith)) (λ e. l) (λ e. l)
+      pub ran-stopped : ended ≡ true → left ≡ [] → Runs p R input ended i before now out done (record { halt = Stopped; taken = taken; skip = skip; count = count; written = written; lines = lines })
+      ran-stopped n l =
+          ran Stopped (λ e. let z : _≡_ {A = ℕ} 0 1 = cc in absurd (omega arith)) (λ e. let z : _≡_ {A = ℕ} 0 1 = cc in absurd (omega arith)) (λ e. (n, l))
+          (λ e. let z : _≡_ {A = ℕ} 0 1 = cc in absurd (omega arith))
 
     pub end-left : taken ≡ length input → left ≡ []
     end-left e = sym (g .rest) ∙ ap (λ (n : ℕ). recordsIn p (drop n input) ended) e ∙ ap (λ (s : List ℕ). recordsIn p s ended) (drop-length input) ∙ none-left p ended
 
     -- ---- the next frame
+
+    passes : (q : Read Request) (qs : List (Read Request)) → left ≡ q ∷ qs → (to skip : ℕ) → to ≡ min (bytesOf (count + 1) input ended) (length input)
+        → skip ≡ bytesOf (count + 1) input ended - length input
+        → Passed p input ended to skip (count + 1)
+    passes q qs head to skip a b =
+        record { few = omega (arith, length-drop count (recordsIn p input ended), ap length head); passed = a; over = b }
 
     part-is : take (length input - taken) (drop taken input) ≡ drop taken input
     part-is = take-all (length input - taken) (drop taken input) (rw (length-drop taken input) (omega (arith, g .inside)))
@@ -213,6 +298,29 @@ module _ (p : Profile) (R : ℕ) (input : List ℕ) (ended : Bool) (i : ℕ) (be
 
       its-records : left ≡ inFrame p (drop taken input) f (λ k. recordsIn p (drop k (drop taken input)) ended)
       its-records = sym (g .rest) ∙ records-by p (drop taken input) ended f framed-is
+
+      its-says : Says ended f
+      its-says = subst (Says ended) (sym framed-is) (says (drop taken input) ended)
+
+      pub more-ended : f ≡ More → ended ≡ false
+      more-ended h = subst (Says ended) h its-says
+
+      pub cut-ended : f ≡ Cut → ended ≡ true
+      cut-ended h = subst (Says ended) h its-says
+
+      pub done-ended : f ≡ Done → ended ≡ true
+      done-ended h = subst (Says ended) h its-says
+
+      -- bytes are left, so the records before took what was taken
+      bytes-then : (skip : ℕ) → Passed p input ended taken skip count → taken < length input → (x : Framed) → f ≡ x
+          → bytesOf (count + 1) input ended ≡ taken + inBytes (drop taken input) x (λ k. 0)
+      bytes-then skip t l x h =
+          let b : bytesOf count input ended ≡ taken = omega (arith, t .passed, l) in
+          let c : count + 1 ≡ suc count = omega arith in
+          ap (λ (j : ℕ). bytesOf j input ended) c
+          ∙ bytes-more count input ended
+          ∙ ap (λ (j : ℕ). j + bytesOf 1 (drop j input) ended) b
+          ∙ ap (λ (j : ℕ). taken + j) (bytes-one (drop taken input) ended x (sym h ∙ framed-is))
 
       pub none-more : f ≡ More → left ≡ []
       none-more h = its-records ∙ ap (λ (x : Framed). inFrame p (drop taken input) x (λ k. recordsIn p (drop k (drop taken input)) ended)) h
@@ -229,6 +337,13 @@ module _ (p : Profile) (R : ℕ) (input : List ℕ) (ended : Bool) (i : ℕ) (be
           ∙ ap (λ (x : Framed). inFrame p (drop taken input) x (λ k. recordsIn p (drop k (drop taken input)) ended)) h
           ∙ ap (λ (l : List (Read Request)). broken 0 ∷ l) (sym (ap (λ (s : List ℕ). recordsIn p s ended) (drop-length input) ∙ none-left p ended))
 
+      pub pass-cut : f ≡ Cut → (skip : ℕ) → Passed p input ended taken skip count → Passed p input ended (length input) skip (count + 1)
+      pass-cut h skip t =
+          let m = cut-moves h in
+          let x = bytes-then skip t (omega (arith, m)) Cut h in
+          let d = length-drop taken input in
+          passes _ _ (cut-left h) (length input) skip (omega (arith, x, d, m)) (omega (arith, x, d, m, t .passed, t .over))
+
       module _ (n : ℕ) (h : f ≡ Whole n) where
         pub whole-moves : (4 ≤ n) × (n ≤ length input - taken)
         whole-moves = subst (Moves (length input - taken)) h its-moves
@@ -241,6 +356,12 @@ module _ (p : Profile) (R : ℕ) (input : List ℕ) (ended : Bool) (i : ℕ) (be
             ∙ ap (λ (s : List ℕ). requestOf (take (n - 2) s) p ∷ recordsIn p (drop n (drop taken input)) ended) (drop-drop 2 taken input)
             ∙ ap (λ (j : ℕ). requestOf (take j (drop (taken + 2) input)) p ∷ recordsIn p (drop n (drop taken input)) ended) k
             ∙ ap (λ (s : List ℕ). requestOf (take (taken + n - (taken + 2)) (drop (taken + 2) input)) p ∷ recordsIn p s ended) (drop-drop n taken input)
+
+        pub pass-whole : (skip : ℕ) → Passed p input ended taken skip count → Passed p input ended (taken + n) skip (count + 1)
+        pass-whole skip t =
+            let m = whole-moves in
+            let x = bytes-then skip t (omega (arith, m .0, m .1)) (Whole n) h in
+            passes _ _ whole-left (taken + n) skip (omega (arith, x, m .0, m .1)) (omega (arith, x, m .0, m .1, t .passed, t .over))
 
       module _ (n : ℕ) (h : f ≡ Skip n) where
         pub skip-moves : (2 ≤ n) × (2 ≤ length input - taken)
@@ -256,6 +377,20 @@ module _ (p : Profile) (R : ℕ) (input : List ℕ) (ended : Bool) (i : ℕ) (be
         skip-past l =
             let k : length input ≤ taken + n = omega arith in
             skip-left ∙ ap (λ (s : List ℕ). broken 0 ∷ recordsIn p s ended) (drop-of-length-le input k ∙ sym (drop-length input))
+
+        module _ (skip : ℕ) (t : Passed p input ended taken skip count) where
+          bytes-skip : bytesOf (count + 1) input ended ≡ taken + n
+          bytes-skip = let x = bytes-then skip t (omega (arith, skip-moves .1)) (Skip n) h in omega (arith, x)
+
+          pub pass-skip : n ≤ length input - taken → Passed p input ended (taken + n) skip (count + 1)
+          pass-skip l =
+              let m = skip-moves in
+              passes _ _ skip-left (taken + n) skip (omega (arith, bytes-skip, m .1)) (omega (arith, bytes-skip, m .1, t .passed, t .over))
+
+          pub pass-past : length input - taken < n → Passed p input ended (length input) (n - (length input - taken)) (count + 1)
+          pass-past l =
+              let m = skip-moves in
+              passes _ _ (skip-past l) (length input) (n - (length input - taken)) (omega (arith, bytes-skip, m .1)) (omega (arith, bytes-skip, m .1))
 
     -- ---- a record answered
 

@@ -1,5 +1,5 @@
 -- Records over a lent store (document 01, "Requests"): one whole record, and a stream of them with the text of their lines. Assumes nothing.
-use Prim.Native.Nat.{ℕ, zero, suc, _-_, _≤_, _<_}
+use Prim.Native.Nat.{ℕ, zero, suc, _+_, _-_, _≤_, _<_, min}
 use mathlib.Core.Path.{_≡_}
 use mathlib.Core.Bool.{Bool, true, false, cond}
 use mathlib.Core.List.{List, [], _∷_, _++_}
@@ -67,6 +67,18 @@ someRecords p (suc n) s ended = inFrame p s (framed s ended) (λ k. someRecords 
 unfoldable pub recordsIn : Profile → List ℕ → Bool → List (Read Request)
 recordsIn p s ended = someRecords p (length s) s ended
 
+-- how many bytes the first n of them take; one of bad length may run past the end
+abbrev pub inBytes : List ℕ → Framed → (ℕ → ℕ) → ℕ
+inBytes s (Whole k) rest = k + rest k
+inBytes s (Skip k) rest = k + rest k
+inBytes s More rest = 0
+inBytes s Cut rest = length s
+inBytes s Done rest = 0
+
+unfoldable pub bytesOf : ℕ → List ℕ → Bool → ℕ
+bytesOf zero s ended = 0
+bytesOf (suc n) s ended = inBytes s (framed s ended) (λ k. bytesOf n (drop k s) ended)
+
 -- ---- the text of their lines, `i` row lines of the first being written already, and the state after them
 
 unfoldable pub textOf : Profile → ℕ → State → List (Read Request) → ℕ → List ℕ
@@ -96,20 +108,25 @@ abbrev pub recordsLeft : Profile → List ℕ → Bool → ℕ → List (Read Re
 recordsLeft p input ended n = drop n (recordsIn p input ended)
 
 pub record Runs (p : Profile) (R : ℕ) (input : List ℕ) (ended : Bool) (i : ℕ) (before after out done : List ℕ) (r : Ran) : Type 0 where
+  pub few : r .count ≤ length (recordsIn p input ended)
+  pub passed : r .taken ≡ min (bytesOf (r .count) input ended) (length input)
+  pub over : r .skip ≡ bytesOf (r .count) input ended - length input
   pub rest : recordsIn p (drop (r .taken) input) ended ≡ recordsLeft p input ended (r .count)
   pub bytes : after ≡ image p R (stateThen p R input ended before (r .count))
   pub text : textOf p R (parse p R before) (recordsIn p input ended) i ≡ take (r .written) done ++ textOf p R (stateThen p R input ended before (r .count)) (recordsLeft p input ended (r .count)) (r .lines)
   pub front : done ≡ take (r .written) done ++ drop (r .written) out
   pub full : r .halt ≡ Full → length out - r .written < rowMost
-  pub waits : r .halt ≡ Waiting → recordsLeft p input ended (r .count) ≡ []
-  pub stops : r .halt ≡ Stopped → recordsLeft p input ended (r .count) ≡ []
+  pub waits : r .halt ≡ Waiting → (ended ≡ false) × (recordsLeft p input ended (r .count) ≡ [])
+  pub stops : r .halt ≡ Stopped → (ended ≡ true) × (recordsLeft p input ended (r .count) ≡ [])
+  pub tested : r .halt ≡ Unsound → ⊥
 
 -- an unsound store: 38 once, where its line has room; no record is read
-pub record Refuses (before after out done : List ℕ) (r : Ran) : Type 0 where
+pub record Refuses (i : ℕ) (before after out done : List ℕ) (r : Ran) : Type 0 where
   pub halt : r .halt ≡ Unsound
+  pub nothing : (r .taken ≡ 0) × (r .skip ≡ 0) × (r .count ≡ 0) × (r .lines ≡ i)
   pub bytes : after ≡ before
   pub line : Front (cond (leb answerMost (length out)) (answerLine (no StoreUnsound 0)) []) out done (r .written)
 
 pub record Many (p : Profile) (input : List ℕ) (ended : Bool) (i : ℕ) (before after out done : List ℕ) (r : Ran) : Type 0 where
   pub runs : sound p before ≡ true → Runs p (placesOf p before) input ended i before after out done r
-  pub refuses : sound p before ≡ false → Refuses before after out done r
+  pub refuses : sound p before ≡ false → Refuses i before after out done r
