@@ -5,7 +5,7 @@
   fuzz.py --list LIST                  a small part as a list, with the model's answers, for the gate to replay
 
 Records of every operation, as they are, cut, lengthened, with bits turned, with other counts, and with lengths 0, 1, 4,096, 4,097 and 65,535 go
-through `lent` over a fresh store and, where that has 70 row places, through `kiosk`. Stores are made by requests, and then some of their
+through `lent` over a fresh store and, where that has 70 row places, through `kiosk`, some of them a few bytes at a time. Stores are made by requests, and then some of their
 bytes are changed: each must be refused and left as it is, or be sound and answer as the model does.
 """
 
@@ -18,7 +18,7 @@ import tempfile
 from generate import broken, inside
 from layout import NotSound, image, lent_state
 from packed import packed, text
-from programs import kiosk, lent
+from programs import kiosk, kiosk_in_pieces, lent
 from records import records
 from runs import answer
 from values import State
@@ -97,6 +97,8 @@ def fuzz_records(count, seed, folder):
         right = told == lines and after == image(state)
         if places == 70:
             right = right and kiosk(source) == lines
+            if streams % 16 == 0:
+                right = right and kiosk_in_pieces(source, 1 + streams % 999) == lines
         if not right:
             print("records: stream %d (R = %d) differs" % (streams, places))
         wrong += not right

@@ -4,6 +4,8 @@ import os
 import platform
 import shutil
 import subprocess
+import threading
+import time
 
 ROOT = os.path.join(os.path.dirname(os.path.abspath(__file__)), "..")
 
@@ -21,6 +23,24 @@ def command(name):
 def kiosk(source):
     """The lines of records over a fresh store with 70 row places."""
     return subprocess.run(command("kiosk"), input=source, stdout=subprocess.PIPE, check=True, timeout=600).stdout
+
+
+def kiosk_in_pieces(source, size):
+    """The same, the records handed over a few bytes at a time."""
+    with subprocess.Popen(command("kiosk"), stdin=subprocess.PIPE, stdout=subprocess.PIPE) as program:
+        lines = []
+        reader = threading.Thread(target=lambda: lines.append(program.stdout.read()))
+        reader.start()
+        try:
+            for at in range(0, len(source), size):
+                program.stdin.write(source[at : at + size])
+                program.stdin.flush()
+                time.sleep(0.0005)
+            program.stdin.close()
+        except BrokenPipeError:  # it stopped at a record that was cut off
+            pass
+        reader.join()
+    return lines[0]
 
 
 def lent(store, source, folder):
