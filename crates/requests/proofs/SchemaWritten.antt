@@ -50,7 +50,8 @@ use Rattle.requests.specs.Reading.{andThen, times, flagged, byteAt, byte
 use Rattle.requests.specs.Record.{columnAt, createAt}
 use Rattle.requests.specs.Walked.{walkedAs}
 use Rattle.requests.specs.Told.{Acted}
-use Rattle.requests.specs.Created.{columnOf, noColumn, tableOf}
+use Rattle.store.specs.Row.{noColumn}
+use Rattle.requests.specs.Created.{columnOf, tableOf}
 
 -- ---- a reading that is got
 

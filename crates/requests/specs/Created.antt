@@ -1,14 +1,10 @@
 -- The column and the table that a create says. Assumes nothing.
-use mathlib.Core.Bool.{false}
 use mathlib.Core.List.{[]}
-use mathlib.Core.Option.{none}
 use Rattle.values.specs.Read.{Read}
 use Rattle.rules.specs.State.{Column, Table}
 use Rattle.rules.specs.Request.{Request, Create, Drop, Insert, Update, Delete, Get, Lookup, Scan, Names}
+use Rattle.store.specs.Row.{noColumn}
 use Rattle.requests.specs.Got.{gotOr}
-
-abbrev pub noColumn : Column
-noColumn = record { name = []; kind = 0; nullable = false; default = none; unique = false; index = false; reference = none }
 
 abbrev pub noTable : Table
 noTable = record { name = []; key = 0; columns = [] }
