@@ -19,21 +19,21 @@ use Rattle.rules.specs.Layout.{parse, image}
 use Rattle.rules.specs.Request.{Request, Delete, Names, entered, Reply, said, no}
 use Rattle.rules.specs.Step.{Outcome, refused, applyAll, act, step}
 use Rattle.rules.proofs.Refusals.{isWrite, write-silent}
-use Rattle.store.specs.Store.{Store, Stored}
+use Rattle.laid.specs.Store.{Store, Stored}
 use Rattle.requests.specs.declared.lines.Put.{Put}
-use Rattle.requests.specs.declared.record.Walked.{Walked}
-use Rattle.requests.specs.declared.record.Walked.the-variants.{Ends}
-use Rattle.requests.specs.Got.{isGot, gotOr}
-use Rattle.requests.specs.Reading.{andThen, times, byteAt, byteFrom}
-use Rattle.requests.specs.Record.{valuesAt, columnAt, createAt, dropAt, mapAt, insertAt, pairAt, updateAt, keysAt, operandsAt, requestOf}
-use Rattle.requests.specs.Walked.{walkedAs}
-use Rattle.requests.specs.Told.{outcomeOf}
+use Rattle.records.specs.declared.record.Walked.{Walked}
+use Rattle.records.specs.declared.record.Walked.the-variants.{Ends}
+use Rattle.operations.specs.Got.{isGot, gotOr}
+use Rattle.records.specs.Reading.{andThen, times, byteAt, byteFrom}
+use Rattle.records.specs.Record.{valuesAt, columnAt, createAt, dropAt, mapAt, insertAt, pairAt, updateAt, keysAt, operandsAt, requestOf}
+use Rattle.records.specs.Walked.{walkedAs}
+use Rattle.operations.specs.Told.{outcomeOf}
 use Rattle.requests.specs.Lines.{rowLines, answerLine}
 use Rattle.requests.specs.Places.{textFrom, Wrote}
 use Rattle.requests.specs.Stream.{Answered}
 use Rattle.requests.proofs.Copied.{front-is}
-use Rattle.requests.proofs.Entered.{same-operands, Still, still-operands, operands-got, outcome-is}
-use Rattle.requests.proofs.Read.{Gives, gives, gives-then, gives-either, gives-got, gives-broken}
+use Rattle.operations.proofs.Entered.{same-operands, Still, still-operands, operands-got, outcome-is}
+use Rattle.operations.proofs.Read.{Gives, gives, gives-then, gives-either, gives-got, gives-broken}
 
 pub broken-outcome : (p : Profile) (R : ℕ) (st : State) (x : ℕ) → outcomeOf p R st (broken x) ≡ refused (no RecordBroken 0)
 unfolding outcomeOf

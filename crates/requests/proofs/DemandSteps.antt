@@ -26,14 +26,14 @@ use Rattle.rules.proofs.Valid.{Valid, valid-of, valid-laid}
 use Rattle.rules.proofs.Kept.{step-valid}
 use Rattle.values.proofs.Packing.{take-bytes}
 use Rattle.rules.proofs.Whole.{sound-image}
-use Rattle.store.specs.Store.{Stored}
-use Rattle.requests.specs.declared.frame.Framed.{Framed}
-use Rattle.requests.specs.declared.frame.Framed.the-variants.{Whole, Skip, More, Cut, Done}
-use Rattle.requests.specs.Record.{requestOf}
-use Rattle.requests.specs.Frame.{framed, lengthOf, leastLength, mostLength, short}
-use Rattle.requests.specs.Told.{outcomeOf}
+use Rattle.laid.specs.Store.{Stored}
+use Rattle.records.specs.declared.frame.Framed.{Framed}
+use Rattle.records.specs.declared.frame.Framed.the-variants.{Whole, Skip, More, Cut, Done}
+use Rattle.records.specs.Record.{requestOf}
+use Rattle.records.specs.Frame.{framed, lengthOf, leastLength, mostLength, short}
+use Rattle.operations.specs.Told.{outcomeOf}
 use Rattle.requests.specs.Stream.{lentOutcome, lentAfter, Lent, inFrame, someRecords, recordsIn, inBytes, bytesOf, stateOf}
-use Rattle.requests.proofs.Read.{Gives, gives, gives-broken, read-readable}
+use Rattle.operations.proofs.Read.{Gives, gives, gives-broken, read-readable}
 use Rattle.requests.proofs.Running.{Moves, moves, records-by}
 
 -- ---- parts of bytes are bytes

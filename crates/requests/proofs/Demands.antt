@@ -21,12 +21,12 @@ use Rattle.rules.proofs.Valid.{empty-valid}
 use Rattle.rules.proofs.Widths.{full-known}
 use Rattle.rules.proofs.Whole.{sound-is, image-parse}
 use Rattle.rules.proofs.Demand.{Demand3, demand-of}
-use Rattle.store.specs.Store.{Store, Stored}
+use Rattle.laid.specs.Store.{Store, Stored}
 use Rattle.requests.specs.declared.entry.Ran.{Ran}
-use Rattle.requests.specs.Got.{isGot}
+use Rattle.operations.specs.Got.{isGot}
 use Rattle.requests.specs.Lines.{rowLines, answerLine, linesOf, stream}
 use Rattle.requests.specs.Places.{textFrom}
-use Rattle.requests.specs.Told.{outcomeOf}
+use Rattle.operations.specs.Told.{outcomeOf}
 use Rattle.requests.specs.Stream.{Lent, recordsIn, bytesOf, textOf, stateOf, Many}
 use Rattle.requests.proofs.DemandSteps.{input-readable, records-valid, valid-sound, lent-unsound, lent-sound, pieces}
 

@@ -10,7 +10,7 @@ use borrow.Author.Tests.{eq-eqb, ne-eqb, le-leb, lt-leb}
 use types.Run.{OneOf}
 use denote.Enum.Declared.{tagOf}
 use mathlib.Core.Logic.{⊎-elim}
-use Rattle.requests.proofs.frame.Framed.{the-type}
+use Rattle.records.proofs.frame.Framed.{the-type}
 use Rattle.values.specs.Print.{Front}
 use Rattle.values.specs.Read.{Read, broken}
 use Rattle.rules.specs.declared.profile.Profile.{Profile}
@@ -23,16 +23,16 @@ use Rattle.rules.specs.Sound.{sound}
 use Rattle.rules.proofs.Valid.{valid-of}
 use Rattle.rules.proofs.Whole.{sound-is}
 use Rattle.rules.proofs.Widths.{full-known}
-use Rattle.store.specs.Store.{Coded, Store, Stored}
+use Rattle.laid.specs.Store.{Coded, Store, Stored}
 use Rattle.store.proofs.Outcomes.{unchanged}
-use Rattle.requests.specs.declared.frame.Framed.{Framed}
-use Rattle.requests.specs.declared.frame.Framed.the-variants.{Whole, Skip, More, Cut, Done}
+use Rattle.records.specs.declared.frame.Framed.{Framed}
+use Rattle.records.specs.declared.frame.Framed.the-variants.{Whole, Skip, More, Cut, Done}
 use Rattle.requests.specs.declared.entry.Halt.the-variants.{Unsound}
 use Rattle.requests.specs.declared.entry.Ran.{Ran}
 use Rattle.requests.specs.Lines.{answerLine}
-use Rattle.requests.specs.Record.{requestOf}
-use Rattle.requests.specs.Frame.{framed}
-use Rattle.requests.specs.Told.{outcomeOf}
+use Rattle.records.specs.Record.{requestOf}
+use Rattle.records.specs.Frame.{framed}
+use Rattle.operations.specs.Told.{outcomeOf}
 use Rattle.requests.specs.Stream.{wholeAs, wholeOf, lentOutcome, lentAfter, Lent, Runs, Refuses, Many}
 use Rattle.requests.proofs.Answering.{broken-outcome}
 use Rattle.requests.proofs.Running.{Moves, moves}

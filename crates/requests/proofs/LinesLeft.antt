@@ -21,11 +21,11 @@ use Rattle.rules.specs.Request.{Request, Create, Drop, Insert, Update, Delete, 
 use Rattle.rules.specs.Step.{Outcome, settle, refused, shows, lookedUp, lookup, isIndexed, isAccepted, act, step}
 use Rattle.rules.proofs.Refusals.{isWrite, write-silent, answers}
 use Rattle.rules.proofs.Tests.{by-option}
-use Rattle.store.specs.Store.{LaidStore}
-use Rattle.store.specs.Looked.{keysWith}
-use Rattle.store.proofs.KeysCounted.{leftBehind, all-left}
-use Rattle.requests.specs.Got.{isGot, gotOr}
-use Rattle.requests.specs.Told.{outcomeOf}
+use Rattle.laid.specs.Store.{LaidStore}
+use Rattle.walks.specs.Looked.{keysWith}
+use Rattle.walks.proofs.KeysCounted.{leftBehind, all-left}
+use Rattle.operations.specs.Got.{isGot, gotOr}
+use Rattle.operations.specs.Told.{outcomeOf}
 use Rattle.requests.specs.Lines.{rowLine, rowLines, rowMost, answerLine}
 use Rattle.requests.proofs.Copied.{front-is, front-told, front-copied, front-back}
 use Rattle.requests.proofs.Fronts.{front-length}

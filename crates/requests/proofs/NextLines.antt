@@ -32,24 +32,24 @@ use Rattle.rules.proofs.Lists.{keep-nothing, keep-ext, map-sorted, nth-in}
 use Rattle.rules.proofs.Room.{few-columns}
 use Rattle.rules.proofs.Shown.{cmpLine, lookup-rising}
 use Rattle.rules.proofs.Tests.{and-left, name-is}
-use Rattle.store.specs.Catalog.{placeOf, TableName}
-use Rattle.store.specs.Keys.{valuesFrom}
-use Rattle.store.specs.Looked.{keysWith, nextWith}
-use Rattle.store.specs.Row.{rowIn, tableIn}
-use Rattle.store.specs.Store.{LaidStore}
-use Rattle.store.proofs.Finding.{drop-nth, place-found, place-missing}
-use Rattle.store.proofs.Keyed.{row-at, row-in}
+use Rattle.laid.specs.Catalog.{placeOf, TableName}
+use Rattle.checks.specs.Keys.{valuesFrom}
+use Rattle.walks.specs.Looked.{keysWith, nextWith}
+use Rattle.laid.specs.Row.{rowIn, tableIn}
+use Rattle.laid.specs.Store.{LaidStore}
+use Rattle.laid.proofs.Finding.{drop-nth, place-found, place-missing}
+use Rattle.laid.proofs.Keyed.{row-at, row-in}
 use Rattle.store.proofs.Lookups.{lookup-unknown, lookup-refused, lookup-counted}
-use Rattle.store.proofs.RowFacts.{table-there, start-count}
-use Rattle.store.proofs.Searching.{tables-count}
-use Rattle.store.proofs.Stores.{held-state}
+use Rattle.laid.proofs.RowFacts.{table-there, start-count}
+use Rattle.laid.proofs.Searching.{tables-count}
+use Rattle.laid.proofs.Stores.{held-state}
 use Rattle.requests.specs.declared.lines.Step.{Step}
-use Rattle.requests.specs.Got.{isGot, gotOr}
-use Rattle.requests.specs.Reading.{andThen, byteAt, byteFrom}
-use Rattle.requests.specs.Record.{valuesAt, createAt, dropAt, insertAt, updateAt, keysAt, lookupAt, scanAt, operandsAt, requestOf}
+use Rattle.operations.specs.Got.{isGot, gotOr}
+use Rattle.records.specs.Reading.{andThen, byteAt, byteFrom}
+use Rattle.records.specs.Record.{valuesAt, createAt, dropAt, insertAt, updateAt, keysAt, lookupAt, scanAt, operandsAt, requestOf}
 use Rattle.requests.specs.Lines.{rowLine, rowMost}
 use Rattle.requests.specs.Places.{cellsIn, nameLine, keyLine, linesFrom, ended, wrote, Lined}
-use Rattle.requests.proofs.ValuesFrom.{was-got, got-gives, unbroken, parted, byte-there, from-there, values-there, values-inside}
+use Rattle.operations.proofs.ValuesFrom.{was-got, got-gives, unbroken, parted, byte-there, from-there, values-there, values-inside}
 
 -- ---- a line that is the first of those left, or none
 

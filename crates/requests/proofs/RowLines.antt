@@ -11,7 +11,7 @@ use Rattle.values.specs.Print.{printed, printMost, Front}
 use Rattle.rules.specs.State.{cellAt}
 use Rattle.rules.proofs.Cells.{cell-there}
 use Rattle.rules.proofs.Lists.{below-nth}
-use Rattle.store.proofs.Finding.{drop-nth}
+use Rattle.laid.proofs.Finding.{drop-nth}
 use Rattle.requests.specs.Lines.{space, newline, spaced, rowLine}
 use Rattle.requests.proofs.Fronts.{front-length, front-byte, front-on, front-self, front-spaced}
 

@@ -22,18 +22,18 @@ use Rattle.rules.specs.Step.{Change, Outcome, applyAll, after}
 use Rattle.rules.proofs.Kept.{step-valid}
 use Rattle.rules.proofs.Tests.{by-cond}
 use Rattle.rules.proofs.Valid.{Valid}
-use Rattle.store.specs.Store.{Store}
-use Rattle.store.proofs.Stores.{store-valid}
+use Rattle.laid.specs.Store.{Store}
+use Rattle.laid.proofs.Stores.{store-valid}
 use Rattle.store.proofs.Written.{store-again, reads-back}
-use Rattle.requests.specs.declared.frame.Framed.{Framed}
-use Rattle.requests.specs.declared.frame.Framed.the-variants.{Whole, Skip, More, Cut, Done}
+use Rattle.records.specs.declared.frame.Framed.{Framed}
+use Rattle.records.specs.declared.frame.Framed.the-variants.{Whole, Skip, More, Cut, Done}
 use Rattle.requests.specs.declared.entry.Halt.{Halt}
 use Rattle.requests.specs.declared.entry.Halt.the-variants.{Full, Waiting, Stopped, Unsound}
 use Rattle.requests.specs.declared.lines.Put.{Put}
-use Rattle.requests.specs.Record.{requestOf}
-use Rattle.requests.specs.Frame.{framed, lengthOf, leastLength, mostLength, short}
+use Rattle.records.specs.Record.{requestOf}
+use Rattle.records.specs.Frame.{framed, lengthOf, leastLength, mostLength, short}
 use Rattle.requests.specs.Lines.{rowMost}
-use Rattle.requests.specs.Told.{outcomeOf}
+use Rattle.operations.specs.Told.{outcomeOf}
 use Rattle.requests.specs.Places.{textFrom}
 use Rattle.requests.specs.Stream.{inFrame, someRecords, recordsIn, inBytes, bytesOf, textOf, stateOf, Answered, stateThen, recordsLeft, Runs}
 use Rattle.requests.proofs.Copied.{front-is, front-told}

@@ -1,11 +1,3 @@
-pub mod Reading
-pub mod Record
-pub mod Walked
-pub mod Frame
 pub mod Lines
-pub mod Got
-pub mod Told
-pub mod Created
-pub mod Mapped
 pub mod Places
 pub mod Stream

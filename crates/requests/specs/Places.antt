@@ -11,7 +11,7 @@ use Rattle.values.specs.Meaning.{held, ProperCell}
 use Rattle.rules.specs.State.{Table, Row, State, rowsOf}
 use Rattle.rules.specs.Request.{Request, Create, Drop, Insert, Update, Delete, Get, Lookup, Scan, Names}
 use Rattle.rules.specs.Step.{Outcome, found, lookup, isAccepted}
-use Rattle.store.specs.Looked.{keysWith}
+use Rattle.walks.specs.Looked.{keysWith}
 use Rattle.requests.specs.declared.lines.Step.{Step}
 use Rattle.requests.specs.declared.lines.Put.{Put}
 use Rattle.requests.specs.Lines.{rowLine, rowLines, rowMost, answerLine}

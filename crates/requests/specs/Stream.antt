@@ -15,15 +15,15 @@ use Rattle.rules.specs.Layout.{image, parse, placesOf}
 use Rattle.rules.specs.Request.{Request, said, no}
 use Rattle.rules.specs.Step.{Outcome, applyAll, refused}
 use Rattle.rules.specs.Sound.{sound}
-use Rattle.requests.specs.declared.frame.Framed.{Framed}
-use Rattle.requests.specs.declared.frame.Framed.the-variants.{Whole, Skip, More, Cut, Done}
+use Rattle.records.specs.declared.frame.Framed.{Framed}
+use Rattle.records.specs.declared.frame.Framed.the-variants.{Whole, Skip, More, Cut, Done}
 use Rattle.requests.specs.declared.entry.Halt.the-variants.{Full, Waiting, Stopped, Unsound}
 use Rattle.requests.specs.declared.entry.Ran.{Ran}
 use Rattle.requests.specs.declared.lines.Put.{Put}
-use Rattle.requests.specs.Record.{requestOf}
-use Rattle.requests.specs.Frame.{framed}
+use Rattle.records.specs.Record.{requestOf}
+use Rattle.records.specs.Frame.{framed}
 use Rattle.requests.specs.Lines.{rowMost, answerLine, answerMost}
-use Rattle.requests.specs.Told.{outcomeOf}
+use Rattle.operations.specs.Told.{outcomeOf}
 use Rattle.requests.specs.Places.{textFrom, Wrote}
 
 -- ---- one record, its two length bytes included; shorter or longer than its length says it is broken

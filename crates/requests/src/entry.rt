@@ -1,12 +1,12 @@
 // The entries: one record over a lent store, and many records over a store tested once. They take any bytes whatever.
-use super::frame;
-use super::frame::Framed;
 use super::line;
 use super::lines;
 use super::lines::Put;
-use super::operate;
-use super::record;
-use super::record::Walked;
+use operations::operate;
+use records::frame;
+use records::frame::Framed;
+use records::record;
+use records::record::Walked;
 use rules::answer;
 use rules::answer::Answer;
 use rules::answer::Refusal;
@@ -21,8 +21,8 @@ ghost use lib.ListN.{length};
 ghost use Rattle.values.specs.Print.{Front};
 ghost use Rattle.rules.specs.Profile.{full};
 ghost use Rattle.rules.specs.Request.{said};
-ghost use Rattle.store.specs.Store.{Store};
-ghost use Rattle.requests.specs.Record.{requestOf};
+ghost use Rattle.laid.specs.Store.{Store};
+ghost use Rattle.records.specs.Record.{requestOf};
 ghost use Rattle.requests.specs.Lines.{rowMost, answerLine};
 ghost use Rattle.requests.specs.Stream.{wholeOf, Lent, Answered, Runs, Many};
 

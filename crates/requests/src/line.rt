@@ -1,8 +1,8 @@
 // Single lines: an answer, `ok N` or `no CODE AT GONE`; a row, `row` and its values.
+use laid::row;
 use rules::answer;
 use rules::answer::Answer;
 use rules::profile::Profile;
-use store::row;
 use values::print;
 use values::value::Cell;
 ghost use mathlib.Core.Path.{_≡_};
@@ -13,8 +13,8 @@ ghost use Rattle.values.specs.Print.{decimal, Front};
 ghost use Rattle.values.specs.Meaning.{held, ProperCell};
 ghost use Rattle.rules.specs.Layout.{parse};
 ghost use Rattle.rules.specs.Request.{said};
-ghost use Rattle.store.specs.Store.{LaidStore};
-ghost use Rattle.store.specs.Row.{rowIn};
+ghost use Rattle.laid.specs.Store.{LaidStore};
+ghost use Rattle.laid.specs.Row.{rowIn};
 ghost use Rattle.requests.specs.Lines.{space, newline, rowLine, rowMost, answerLine, answerMost};
 
 // A space and a number from a position on; returns where they end.

@@ -1,14 +1,14 @@
 // The lines of a request: one after the other from a place on, made from the store and the record when they are asked for; row lines first, then the
 // answer. Whole lines, as many as fit.
 use super::line;
-use super::record;
+use laid::catalog;
+use laid::catalog::Found;
+use laid::layout;
+use records::record;
 use rules::answer::Answer;
 use rules::profile::Profile;
-use store::layout;
 use store::local;
 use store::reads;
-use store::schema;
-use store::schema::Found;
 use values::bytes;
 use values::read;
 use values::read::ReadCell;
@@ -16,6 +16,7 @@ use values::read::ReadName;
 use values::value::Cell;
 use values::value::Text;
 use values::value::Value;
+use walks::walk;
 ghost use mathlib.Core.Path.{_≡_};
 ghost use mathlib.Core.Bool.{true};
 ghost use Prim.Native.Nat.{_≤_, _<_};
@@ -25,14 +26,14 @@ ghost use Rattle.values.specs.Print.{Front};
 ghost use Rattle.values.specs.Meaning.{textBytes, Packed, meaning, Proper, held, ProperCell};
 ghost use Rattle.rules.specs.Layout.{parse};
 ghost use Rattle.rules.specs.Request.{Get, Lookup, Scan, Names, said};
-ghost use Rattle.store.specs.Store.{LaidStore, Store};
-ghost use Rattle.store.specs.Row.{rowIn};
-ghost use Rattle.store.specs.Keys.{valuesFrom};
-ghost use Rattle.requests.specs.Got.{isGot, gotOr};
-ghost use Rattle.requests.specs.Record.{requestOf};
+ghost use Rattle.laid.specs.Store.{LaidStore, Store};
+ghost use Rattle.laid.specs.Row.{rowIn};
+ghost use Rattle.checks.specs.Keys.{valuesFrom};
+ghost use Rattle.operations.specs.Got.{isGot, gotOr};
+ghost use Rattle.records.specs.Record.{requestOf};
 ghost use Rattle.requests.specs.Lines.{rowLine, rowMost};
 ghost use Rattle.requests.specs.Places.{Lined, Wrote};
-ghost use Rattle.requests.specs.Told.{outcomeOf};
+ghost use Rattle.operations.specs.Told.{outcomeOf};
 
 // Where a request's lines go on: of get the number of keys passed, of scan and list a place in the store; of lookup the last key.
 struct Place {
@@ -59,9 +60,9 @@ fn put_stored(s: &[u8], p: Profile, places: usize, name: Text, i: usize, out: &m
     requires { ⌜ LaidStore p places (now s) × (p .columns ≤ 8) × (i < length ((parse p places (now s)) .rows)) × Packed name × ((rowIn p places (now s) i) .table ≡ textBytes name) × (rowMost ≤ length (now out)) ⌝ }
     ensures { λ r. ⌜ Front (rowLine ((rowIn p places (now (s .entry)) i) .cells)) (now (out .entry)) (now (out .exit)) r × (r ≤ rowMost) ⌝ }
 {
-    match schema::get_table(s, p, places, name) {
+    match catalog::get_table(s, p, places, name) {
         Found::At(t) => {
-            let columns = schema::column_count(layout::table_record(s, p, places, t));
+            let columns = catalog::column_count(layout::table_record(s, p, places, t));
             line::put_row(s, p, places, i, columns, out)
         }
         Found::Nothing => 0,
@@ -124,7 +125,7 @@ fn put_scanned(s: &[u8], p: Profile, places: usize, name: Text, from: usize, out
     requires { ⌜ LaidStore p places (now s) × (p .columns ≤ 8) × Packed name × (rowMost ≤ length (now out)) ⌝ }
     ensures { λ r. ⌜ Lined (parse p places (now (s .entry))) (Scan (textBytes name)) from null (now (out .entry)) (now (out .exit)) r ⌝ }
 {
-    match reads::next_row(s, p, places, name, from) {
+    match walk::next_row(s, p, places, name, from) {
         Found::At(i) => Step {
             count: put_stored(s, p, places, name, i, out),
             at: i + 1,
@@ -154,9 +155,9 @@ fn put_looked(
     requires { ⌜ LaidStore p places (now s) × Packed name × Proper after × (rowMost ≤ length (now out)) ⌝ }
     ensures { λ r. ⌜ Lined (parse p places (now (s .entry))) (Lookup (textBytes name) column (valuesFrom (now (rec .entry)) count at)) 0 (meaning after) (now (out .entry)) (now (out .exit)) r ⌝ }
 {
-    if let Found::At(t) = schema::get_table(s, p, places, name) {
+    if let Found::At(t) = catalog::get_table(s, p, places, name) {
         if reads::is_indexed(s, p, places, t, column as usize) {
-            let x = reads::next_key(s, p, places, name, column, rec, at, count, after);
+            let x = walk::next_key(s, p, places, name, column, rec, at, count, after);
             if x.found {
                 let key = x.key;
                 return Step {

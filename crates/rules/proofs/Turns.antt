@@ -9,8 +9,9 @@ use lib.ListN.{length}
 use Rattle.values.specs.Value.{Value}
 use Rattle.rules.specs.State.{State}
 use Rattle.rules.specs.Request.{Reply, ok}
-use Rattle.rules.specs.Step.{Change, applyAll, Outcome, did, isAccepted, atPlace, onward, inTurn}
+use Rattle.rules.specs.Step.{Change, applyAll, Outcome, did, isAccepted, atPlace, numbered, onward, inTurn}
 use Rattle.rules.proofs.Removed.{applyAll-append}
+use Rattle.rules.proofs.Tests.{by-cond}
 
 -- where an item was accepted or refused
 pub onward-yes : (o : Outcome) (i : ℕ) (rest : List Change → Outcome) → isAccepted (o .reply) ≡ true
@@ -22,6 +23,14 @@ pub onward-no : (o : Outcome) (i : ℕ) (rest : List Change → Outcome) → isA
     → onward o i rest ≡ record { changes = o .changes; lines = []; reply = atPlace i (o .reply) }
 unfolding onward
 onward-no o i rest h = rw h
+
+-- a number refuses nothing and accepts nothing, and where an item was refused the answer is at it
+pub numbered-accepted : (i : ℕ) (o : Outcome) → isAccepted ((numbered i o) .reply) ≡ isAccepted (o .reply)
+numbered-accepted i o = by-cond (λ (r : Reply). isAccepted r ≡ isAccepted (o .reply)) (isAccepted (o .reply)) _ _ (λ h. refl) (λ h. refl)
+
+pub numbered-no : (i : ℕ) (o : Outcome) → isAccepted (o .reply) ≡ false
+    → numbered i o ≡ record { changes = o .changes; lines = o .lines; reply = atPlace i (o .reply) }
+numbered-no i o h = rw h
 
 -- an outcome that shows nothing and is accepted
 pub is-did : (o : Outcome) (n : ℕ) → o .lines ≡ [] → o .reply ≡ ok n → o ≡ did (o .changes) n

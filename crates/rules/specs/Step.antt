@@ -69,6 +69,11 @@ abbrev pub atPlace : ℕ → Reply → Reply
 atPlace i r =
     record { kind = r .kind; count = r .count; at = i; gone = r .gone; table = r .table; column = r .column; key = r .key }
 
+-- the outcome of the row or pair with this number: where it is refused, the answer says the number
+abbrev pub numbered : ℕ → Outcome → Outcome
+numbered i o =
+    record { changes = o .changes; lines = o .lines; reply = cond (isAccepted (o .reply)) (o .reply) (atPlace i (o .reply)) }
+
 -- where a row or pair was accepted, its changes and then the rest; else it is the answer, and earlier ones stay
 unfoldable pub onward : Outcome → ℕ → (List Change → Outcome) → Outcome
 onward o i rest =

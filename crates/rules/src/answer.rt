@@ -6,7 +6,6 @@ ghost use lib.Dec.{eqb};
 ghost use Rattle.values.specs.Meaning.{textBytes, meaning};
 ghost use Rattle.rules.specs.Refusal.{numberOf};
 ghost use Rattle.rules.specs.Request.{said, bare, ok, no, carriedBy, noCarrying, withGone};
-ghost use Rattle.rules.specs.Step.{atPlace};
 
 pub enum Refusal {
     Accepted,
@@ -148,14 +147,14 @@ fn refusing(kind: Refusal, count: usize, at: usize) -> Answer
     }
 }
 
-// A refusal at 0 that carries a table, a column and a key.
-pub fn carrying(kind: Refusal, table: Text, column: usize, key: Value) -> Answer
-    ensures { λ r. ⌜ said r ≡ noCarrying kind 0 (carriedBy (textBytes table) column (meaning key)) ⌝ }
+// A refusal that carries a table, a column and a key.
+pub fn carrying(kind: Refusal, at: usize, table: Text, column: usize, key: Value) -> Answer
+    ensures { λ r. ⌜ said r ≡ noCarrying kind at (carriedBy (textBytes table) column (meaning key)) ⌝ }
 {
     Answer {
         kind,
         count: 0,
-        at: 0,
+        at,
         gone: false,
         table,
         column,
@@ -175,24 +174,6 @@ pub fn with_gone(a: Answer, gone: bool) -> Answer
         count: a.count,
         at: a.at,
         gone,
-        table,
-        column: a.column,
-        key,
-    }
-}
-
-// The same answer at the number of a row or pair.
-pub fn at_place(a: Answer, at: usize) -> Answer
-    ensures { λ r. ⌜ said r ≡ atPlace at (said a) ⌝ }
-{
-    let kind = a.kind;
-    let table = a.table;
-    let key = a.key;
-    Answer {
-        kind,
-        count: a.count,
-        at,
-        gone: a.gone,
         table,
         column: a.column,
         key,

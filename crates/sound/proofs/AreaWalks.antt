@@ -15,8 +15,8 @@ use Rattle.values.specs.Counted.{countAt}
 use Rattle.rules.specs.declared.profile.Profile.{Profile}
 use Rattle.rules.specs.Layout.{lists, Area, countPlace, countWidth, areaAt, recordWidth, inArea}
 use Rattle.rules.specs.Sound.{every, sorted}
-use Rattle.store.specs.Store.{Inside}
-use Rattle.store.proofs.Inside.{area-count, record-wide}
+use Rattle.laid.specs.Store.{Inside}
+use Rattle.laid.proofs.Inside.{area-count, record-wide}
 use Rattle.sound.proofs.Walks.{every-stop, every-next, every-end, sorted-stop, sorted-next, sorted-end}
 
 -- ---- the parts of a record, as columns or cells of w bytes from `at` on

@@ -9,13 +9,10 @@ use lib.Dec.{leb}
 use lib.ListN.{length, getD, take, drop, length-drop}
 use lib.Seq.{take-all}
 use borrow.Author.Tests.{le-leb, lt-leb, not-true, not-false}
-use Rattle.values.specs.Basic.{isLt, cmpBytes}
+use Rattle.values.specs.Basic.{cmpBytes}
 use Rattle.values.specs.Bytes.{zeros, Bytes}
 use Rattle.values.specs.Value.{Value}
 use Rattle.values.specs.Cell.{readName, isNameCell, readValue, isCell}
-use Rattle.values.specs.Meaning.{ordering}
-use Rattle.values.specs.declared.value.Order.{Order}
-use Rattle.values.specs.declared.value.Order.the-variants.{Less}
 use Rattle.values.specs.Records.{records}
 use Rattle.values.specs.Search.{cmpNamed, cmpContent, cmpEntered}
 use Rattle.rules.specs.declared.profile.Profile.{Profile}
@@ -25,10 +22,10 @@ use Rattle.rules.specs.Index.{cmpEntry}
 use Rattle.rules.specs.Layout.{bit, lists, parse, readTable, readEntry}
 use Rattle.rules.specs.Sound.{every, sorted}
 use Rattle.rules.proofs.Widths.{column-within}
-use Rattle.store.specs.Store.{Coded}
+use Rattle.laid.specs.Store.{Coded}
 use Rattle.sound.specs.Tested.{isColumn, isTable, isEntry, entriesIn}
 use Rattle.sound.proofs.Headers.{all-fails, all-next, all-ends}
-use Rattle.store.proofs.Columns.{value-front}
+use Rattle.laid.proofs.Columns.{value-front}
 use Rattle.sound.proofs.RecordPieces.{column-pieces, table-pieces, entry-pieces}
 use Rattle.sound.proofs.Walks.{sorted-map-is}
 
@@ -135,10 +132,3 @@ unfolding schemaWidth
 columns-fit p r w n e l h =
     let m : n * columnWidth p ≤ p .columns * columnWidth p = mul-le-mul h (le-refl (columnWidth p)) in
     rw e (omega (arith, l))
-
--- an answer that is `Less`, and one that is not
-pub less-is : (r : Order) (o : Ordering) → ordering r ≡ o → r ≡ Less → true ≡ isLt o
-less-is r o e h = sym (ap isLt (sym e) ∙ ap (λ (q : Order). isLt (ordering q)) h)
-
-pub less-not : (r : Order) (o : Ordering) → ordering r ≡ o → isLt (ordering r) ≡ false → false ≡ isLt o
-less-not r o e h = sym (ap isLt (sym e) ∙ h)

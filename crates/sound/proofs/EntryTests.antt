@@ -22,11 +22,11 @@ use Rattle.rules.specs.Index.{Entry, cmpEntry, entryAt}
 use Rattle.rules.specs.Layout.{Entries, countPlace, countWidth, areaAt, recordWidth, lists, parse, readRow, readTable, readEntry}
 use Rattle.rules.proofs.Tests.{sorted-is}
 use Rattle.rules.proofs.Index.{ordEntry}
-use Rattle.store.specs.Store.{Coded, Inside}
+use Rattle.laid.specs.Store.{Coded, Inside}
 use Rattle.sound.specs.Tested.{Here, Filed, entriesIn, entryOf, inGroup, alike, stands, followed, enteredAs}
-use Rattle.store.proofs.Inside.{area-count}
-use Rattle.store.proofs.Finding.{nth-map, nth-getD, nth-past}
-use Rattle.store.proofs.Columns.{value-front}
+use Rattle.laid.proofs.Inside.{area-count}
+use Rattle.laid.proofs.Finding.{nth-map, nth-getD, nth-past}
+use Rattle.laid.proofs.Columns.{value-front}
 use Rattle.sound.proofs.RowPieces.{row-name, row-cells, key-read, cell-read}
 use Rattle.sound.proofs.Rowing.{rest-read}
 use Rattle.sound.proofs.Placed.{searched, ranked, place-past, place-here}

@@ -23,9 +23,9 @@ use Rattle.rules.specs.Layout.{Lists, Area, Schemas, Rows, Entries, countPlace,
 use Rattle.rules.proofs.Tests.{all-head, all-tail, all-nil, all-cons}
 use Rattle.rules.proofs.Widths.{area-within, header-within}
 use Rattle.rules.proofs.Laid.{around, frame, area-wide, area-few, laid-count, told-length, told-version, ahead, between, behind}
-use Rattle.store.specs.Store.{Coded, Inside}
+use Rattle.laid.specs.Store.{Coded, Inside}
 use Rattle.sound.specs.Tested.{headed, spare, laidOut}
-use Rattle.store.proofs.Inside.{area-count, area-lists}
+use Rattle.laid.proofs.Inside.{area-count, area-lists}
 
 -- ---- records one after the other are the front of what they were read from
 

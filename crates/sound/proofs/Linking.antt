@@ -17,13 +17,13 @@ use Rattle.rules.specs.Index.{columnsOf, entriesOf}
 use Rattle.rules.specs.Layout.{lists, parse, readTable, readRow}
 use Rattle.rules.specs.Sound.{everyCell, held, referencesHeld}
 use Rattle.rules.proofs.Index.{entries-length}
-use Rattle.store.specs.Store.{Coded}
-use Rattle.store.specs.Column.{columnAt}
-use Rattle.store.specs.Catalog.{TableBytes}
+use Rattle.laid.specs.Store.{Coded}
+use Rattle.laid.specs.Column.{columnAt}
+use Rattle.laid.specs.Catalog.{TableBytes}
 use Rattle.sound.specs.Tested.{cellsIn, entriesWanted, enteredCell, enteredRow}
 use Rattle.rules.specs.Index.{Entry}
-use Rattle.store.proofs.Finding.{drop-nth, nth-map, nth-getD}
-use Rattle.store.proofs.Columns.{count-byte, column-nth}
+use Rattle.laid.proofs.Finding.{drop-nth, nth-map, nth-getD}
+use Rattle.laid.proofs.Columns.{count-byte, column-nth}
 use Rattle.sound.proofs.RowPieces.{row-name, row-cells, row-of-its, row-of-none}
 
 -- ---- a reference

@@ -28,9 +28,9 @@ use Rattle.rules.proofs.Room.{table-in, table-named}
 use Rattle.rules.proofs.Trip.{table-good, table-back, row-back, entry-back}
 use Rattle.rules.proofs.Laid.{laid-lists}
 use Rattle.rules.proofs.Whole.{sound-of, sound-valid, sound-laid, sound-index, good-row, key-is, good-entries}
-use Rattle.store.specs.Store.{Coded, Inside}
+use Rattle.laid.specs.Store.{Coded, Inside}
 use Rattle.sound.specs.Tested.{laidOut, isTable, cataloged, isRow, rowed, entriesIn, isEntry, enteredRow, indexTested}
-use Rattle.store.proofs.Inside.{area-count}
+use Rattle.laid.proofs.Inside.{area-count}
 use Rattle.sound.proofs.Lengths.{RightLength, right-is}
 use Rattle.sound.proofs.LaidOut.{laid-of, inside-of, laid-tested}
 use Rattle.sound.proofs.Indexed.{Rowed, its-table, of-its, index-length, index-is, entered-of, unique-of}

@@ -17,7 +17,7 @@ use Rattle.values.proofs.Packing.{take-bytes, drop-bytes}
 use Rattle.values.proofs.Cells.{length-name, read-name-short, read-name-bytes, read-normal, read-inside, read-storable-full, length-value}
 use Rattle.rules.specs.Sound.{every, goodName, canonical}
 use Rattle.rules.proofs.Lists.{bool-same}
-use Rattle.store.proofs.Columns.{name-front, value-front}
+use Rattle.laid.proofs.Columns.{name-front, value-front}
 use Rattle.rules.proofs.Trip.{name-good, range-canonical}
 
 -- ---- a list in front of another

@@ -25,13 +25,13 @@ use Rattle.rules.specs.Sound as S
 use Rattle.rules.proofs.Tests.{all-head, all-tail, every-at, sorted-is}
 use Rattle.rules.proofs.Lists.{any-none, any-ext, in-map}
 use Rattle.rules.proofs.Index.{ordRow}
-use Rattle.store.specs.Store.{Inside}
-use Rattle.store.specs.Catalog.{placeOf}
+use Rattle.laid.specs.Store.{Inside}
+use Rattle.laid.specs.Catalog.{placeOf}
 use Rattle.sound.specs.Tested.{Here, Tabled, rowed, stands}
 use Rattle.sound.specs.Tested as T
-use Rattle.store.proofs.Inside.{area-lists, area-count, records-within}
-use Rattle.store.proofs.Finding.{falls-unmap}
-use Rattle.store.proofs.Columns.{rest}
+use Rattle.laid.proofs.Inside.{area-lists, area-count, records-within}
+use Rattle.laid.proofs.Finding.{falls-unmap}
+use Rattle.laid.proofs.Columns.{rest}
 use Rattle.sound.proofs.Indexed.{its-table}
 use Rattle.sound.proofs.RowPieces.{keyed-order}
 use Rattle.sound.proofs.Rowing.{nowhere}

@@ -16,7 +16,7 @@ use Rattle.values.proofs.Sorting.{all-below, one-place, find-in}
 use Rattle.values.proofs.Placing.{rank, found-at, holds-in}
 use Rattle.rules.proofs.Tests.{is-eq}
 use Rattle.rules.proofs.Lists.{nth-in}
-use Rattle.store.proofs.Finding.{nth-getD}
+use Rattle.laid.proofs.Finding.{nth-getD}
 
 module _ {A : Type 0} {cmp : A → A → Ordering} (O : Ord cmp) where
   never : (a b : A) → cmp a b ≡ lt → cmp b a ≡ lt → ⊥

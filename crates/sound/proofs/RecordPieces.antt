@@ -22,7 +22,7 @@ use Rattle.rules.specs.Profile.{columnWidth, schemaWidth, entryWidth}
 use Rattle.rules.specs.Layout.{one, bit, flags, columnRecord, tableRecord, readColumn, readTable, entryRecord, readEntry}
 use Rattle.rules.specs.Sound.{all, every, canonicalDefault, goodReference, goodColumn, goodTable}
 use Rattle.rules.proofs.Lists.{bool-same}
-use Rattle.store.specs.Store.{Coded}
+use Rattle.laid.specs.Store.{Coded}
 use Rattle.sound.specs.Tested.{isColumn, isTable, isEntry}
 use Rattle.sound.proofs.Pieces.{leqb-append, leqb-cons, zeros-piece, name-piece, value-piece, name-long, value-long, good-read-name, canonical-read, joined-long, joined-piece}
 

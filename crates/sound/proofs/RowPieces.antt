@@ -29,11 +29,11 @@ use Rattle.rules.specs.Sound.{all, every, everyCell, ofItsTable, goodName, cano
 use Rattle.rules.proofs.Tests.{name-is, every-at, every-of}
 use Rattle.rules.proofs.Trip.{canonical-normal, null-canonical}
 use Rattle.rules.proofs.Lists.{in-map, nth-in}
-use Rattle.store.specs.Store.{Coded}
+use Rattle.laid.specs.Store.{Coded}
 use Rattle.sound.specs.Tested.{fitting, cellsIn, isRow}
-use Rattle.store.proofs.Finding.{nth-map, nth-getD}
+use Rattle.laid.proofs.Finding.{nth-map, nth-getD}
 use Rattle.sound.proofs.Pieces.{leqb-append, zeros-piece, name-piece, value-piece, name-long, value-long, good-read-name, canonical-read, joined-long, joined-piece}
-use Rattle.store.proofs.Columns.{value-front}
+use Rattle.laid.proofs.Columns.{value-front}
 use Rattle.sound.proofs.RecordPieces.{and-same}
 use Rattle.sound.proofs.Indexed.{found-named, of-its, undefined-normal}
 

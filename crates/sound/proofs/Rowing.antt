@@ -31,14 +31,15 @@ use Rattle.rules.proofs.Tests.{every-at, none-is}
 use Rattle.rules.proofs.Lists.{nth-below, nth-in}
 use Rattle.rules.proofs.Room.{key-column}
 use Rattle.rules.proofs.Widths.{cell-within}
-use Rattle.store.specs.Store.{Coded}
-use Rattle.store.specs.Column.{columnAt}
-use Rattle.store.specs.declared.schema.Fault.{Fault}
-use Rattle.store.specs.Catalog.{TableBytes, placeOf, faultOf}
+use Rattle.laid.specs.Store.{Coded}
+use Rattle.laid.specs.Column.{columnAt}
+use Rattle.checks.specs.declared.schema_fault.Fault.{Fault}
+use Rattle.laid.specs.Catalog.{TableBytes, placeOf}
+use Rattle.checks.specs.Faults.{faultOf}
 use Rattle.sound.specs.Tested.{Schemed, Here, fitting, cellsIn, fitsTable, isRow}
-use Rattle.store.proofs.Finding.{place-missing, nth-getD}
-use Rattle.store.proofs.Searching.{found-within, found-table, table-bytes-at}
-use Rattle.store.proofs.Columns.{count-byte, columns-few, column-nth, key-byte}
+use Rattle.laid.proofs.Finding.{place-missing, nth-getD}
+use Rattle.laid.proofs.Searching.{found-within, found-table, table-bytes-at}
+use Rattle.laid.proofs.Columns.{count-byte, columns-few, column-nth, key-byte}
 use Rattle.sound.proofs.Headers.{all-fails, all-next, all-ends}
 use Rattle.sound.proofs.Walks.{Cells, cell-stop, cell-next, cells-end, every-map-is, sorted-map-is}
 use Rattle.sound.proofs.RowPieces.{cell-read, row-name, key-read, row-none, row-pieces, keyed-order}

@@ -18,10 +18,10 @@ use Rattle.rules.specs.Index.{cmpEntry}
 use Rattle.rules.specs.Layout.{Schemas, Entries, entriesCount, lists, parse, placesOf, tableRecord, readTable, readEntry}
 use Rattle.rules.specs.Sound.{all, every, sorted, faultless, referencesHeld, rightLength, sound}
 use Rattle.rules.proofs.Tests.{and-left, and-right, all-head, all-tail, all-nil, all-cons, sorted-is}
-use Rattle.store.specs.Store.{Coded, Inside}
-use Rattle.store.specs.Catalog.{TableBytes, Catalog}
+use Rattle.laid.specs.Store.{Coded, Inside}
+use Rattle.laid.specs.Catalog.{TableBytes, Catalog}
 use Rattle.sound.specs.Tested.{laidOut, isTable, cataloged, isRow, rowed, isEntry, entriesIn, entriesWanted, enteredRow, Filed, indexTested}
-use Rattle.store.proofs.Inside.{area-wide, area-count}
+use Rattle.laid.proofs.Inside.{area-wide, area-count}
 use Rattle.sound.proofs.Lengths.{right-is}
 use Rattle.sound.proofs.Parts.{Parts, sound-parts, parts-sound}
 

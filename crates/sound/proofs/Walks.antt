@@ -12,7 +12,7 @@ use Rattle.values.specs.Basic.{isLt, nth}
 use Rattle.values.specs.Value.{Value}
 use Rattle.rules.specs.State.{Column}
 use Rattle.rules.specs.Sound.{every, sorted, everyCell}
-use Rattle.store.proofs.Finding.{drop-nth}
+use Rattle.laid.proofs.Finding.{drop-nth}
 
 short-sorted : {A : Type 0} (cmp : A → A → Ordering) (xs : List A) → length xs ≤ 1 → sorted cmp xs ≡ true
 unfolding sorted

@@ -22,7 +22,7 @@ use Rattle.rules.specs.Schema.{otherKind}
 use Rattle.rules.specs.Index.{Entry, cmpEntry, entryAt, entriesOf}
 use Rattle.rules.specs.Layout.{Area, Schemas, Rows, Entries, countPlace, countWidth, areaAt, recordWidth, areaPlaces, tablesCount, rowsCount, entriesCount, lists, columnRecord, readColumn, tableRecord, readTable, rowRecord, readRow, readCells, entryRecord, readEntry, parse}
 use Rattle.rules.specs.Sound.{all, every, sorted, goodColumn, goodTable, faultless, everyCell, ofItsTable, hasTable, goodCells, rightKinds, keyDefined}
-use Rattle.store.specs.Catalog.{TableBytes, Catalog}
+use Rattle.laid.specs.Catalog.{TableBytes, Catalog}
 
 -- ---- the layout
 

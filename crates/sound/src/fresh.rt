@@ -1,16 +1,16 @@
 // A fresh store in a lent buffer, and which lengths a store has.
+use laid::layout;
 use rules::answer;
 use rules::answer::Answer;
 use rules::answer::Refusal;
 use rules::profile;
 use rules::profile::Profile;
-use store::layout;
 use values::bytes;
 ghost use mathlib.Core.Path.{_≡_};
 ghost use Rattle.rules.specs.Profile.{full};
 ghost use Rattle.rules.specs.Layout.{placesOf};
 ghost use Rattle.rules.specs.Sound.{rightLength};
-ghost use Rattle.store.specs.Store.{Coded};
+ghost use Rattle.laid.specs.Store.{Coded};
 ghost use Rattle.sound.specs.Fresh.{Freshened};
 
 // How many row places a buffer has, if it is a store's.

@@ -1,10 +1,10 @@
 // The test of the index: its entries are sorted, those of the rows and no others, and alone where the column is unique.
 use super::row_test;
+use laid::catalog;
+use laid::catalog::Column;
+use laid::catalog::Found;
+use laid::layout;
 use rules::profile::Profile;
-use store::layout;
-use store::schema;
-use store::schema::Column;
-use store::schema::Found;
 use values::cell;
 use values::search;
 use values::value;
@@ -24,10 +24,10 @@ ghost use Rattle.rules.specs.State as S;
 ghost use Rattle.rules.specs.Index.{cmpEntry, entriesOf};
 ghost use Rattle.rules.specs.Layout.{lists, readTable, readRow, readEntry, parse};
 ghost use Rattle.rules.specs.Sound.{every, sorted, everyCell};
-ghost use Rattle.store.specs.Store.{Coded, Inside};
+ghost use Rattle.laid.specs.Store.{Coded, Inside};
 ghost use Rattle.sound.specs.Tested.{Here, cellsIn, Tabled, isEntry, entriesIn, entriesWanted, entryOf, stands, followed, inGroup, enteredAs, enteredCell, enteredRow, Filed};
-ghost use Rattle.store.specs.Column.{columnOf};
-ghost use Rattle.store.specs.Catalog.{TableBytes};
+ghost use Rattle.laid.specs.Column.{columnOf};
+ghost use Rattle.laid.specs.Catalog.{TableBytes};
 
 // Whether the bytes are an index entry's record.
 fn is_entry(rec: &[u8], p: Profile) -> bool
@@ -112,7 +112,7 @@ fn indexed_columns(rec: &[u8], p: Profile) -> usize
     let mut n: usize = 0;
     let mut i = 0;
     while i < count {
-        let c = schema::read_column(rec, p, i);
+        let c = catalog::read_column(rec, p, i);
         n += one(c.index);
         i += 1;
     }
@@ -124,7 +124,7 @@ fn row_entries(s: &[u8], p: Profile, places: usize, row: &[u8]) -> usize
     requires { ⌜ Tabled p places (now s) × (length (now row) ≡ rowWidth p) ⌝ }
     ensures { λ r. ⌜ (r ≡ length (entriesOf ((parse p places (now (s .entry))) .tables) (readRow p ((parse p places (now (s .entry))) .tables) (now (row .entry))))) × (r ≤ 255) ⌝ }
 {
-    let Found::At(i) = schema::get_table(s, p, places, cell::read_name(row)) else {
+    let Found::At(i) = catalog::get_table(s, p, places, cell::read_name(row)) else {
         return 0;
     };
     indexed_columns(layout::table_record(s, p, places, i), p)
@@ -247,7 +247,7 @@ fn are_cells_entered(s: &[u8], p: Profile, places: usize, row: &[u8], rec: &[u8]
     let mut i: u8 = 0;
     while i < count {
         let j = i as usize;
-        let c = schema::read_column(rec, p, j);
+        let c = catalog::read_column(rec, p, j);
         let d = row_test::cell_at(row, j);
         let v = d.value;
         if !is_cell_entered(s, p, places, c, name, i, v, key) {
@@ -263,7 +263,7 @@ fn is_row_entered(s: &[u8], p: Profile, places: usize, row: &[u8]) -> bool
     requires { ⌜ Filed p places (now s) × (length (now row) ≡ rowWidth p) ⌝ }
     ensures { λ r. ⌜ r ≡ enteredRow ((parse p places (now (s .entry))) .tables) (entriesIn p places (now (s .entry))) (readRow p ((parse p places (now (s .entry))) .tables) (now (row .entry))) ⌝ }
 {
-    let Found::At(i) = schema::get_table(s, p, places, cell::read_name(row)) else {
+    let Found::At(i) = catalog::get_table(s, p, places, cell::read_name(row)) else {
         return false;
     };
     are_cells_entered(s, p, places, row, layout::table_record(s, p, places, i))

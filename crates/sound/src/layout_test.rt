@@ -1,6 +1,6 @@
 // The test of the layout: the header is right, and what is unused is zero.
+use laid::layout;
 use rules::profile::Profile;
-use store::layout;
 use values::area;
 use values::bytes;
 ghost use mathlib.Core.Path.{_≡_};
@@ -9,7 +9,7 @@ ghost use lib.ListN.{length, drop};
 ghost use Rattle.values.specs.Bytes.{zeros};
 ghost use Rattle.values.specs.Area.{part};
 ghost use Rattle.rules.specs.Profile.{storeLength, placesMost};
-ghost use Rattle.store.specs.Store.{Coded};
+ghost use Rattle.laid.specs.Store.{Coded};
 ghost use Rattle.sound.specs.Tested.{headed, laidOut};
 
 // The length and the version are told, and the counts are within their areas.

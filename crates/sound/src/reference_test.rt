@@ -1,10 +1,10 @@
 // The test of the references: each that is not NULL names a stored row.
 use super::row_test;
+use laid::catalog;
+use laid::catalog::Column;
+use laid::catalog::Found;
+use laid::layout;
 use rules::profile::Profile;
-use store::layout;
-use store::schema;
-use store::schema::Column;
-use store::schema::Found;
 use values::cell;
 use values::search;
 use values::value;
@@ -20,15 +20,15 @@ ghost use Rattle.rules.specs.Layout.{readTable, readRow, parse};
 ghost use Rattle.rules.specs.Sound as Sound;
 ghost use Rattle.rules.specs.Sound.{every, everyCell, referencesHeld};
 ghost use Rattle.sound.specs.Tested.{cellsIn, Tabled};
-ghost use Rattle.store.specs.Column.{columnOf, ProperColumn};
-ghost use Rattle.store.specs.Catalog.{TableBytes};
+ghost use Rattle.laid.specs.Column.{columnOf, ProperColumn};
+ghost use Rattle.laid.specs.Catalog.{TableBytes};
 
 // Whether a table has a row with this key.
 fn has_row(s: &[u8], p: Profile, places: usize, name: Text, key: Value) -> bool
     requires { ⌜ Tabled p places (now s) × Packed name × Proper key ⌝ }
     ensures { λ r. ⌜ r ≡ hasRow ((parse p places (now (s .entry))) .rows) (textBytes name) (meaning key) ⌝ }
 {
-    let Found::At(t) = schema::get_table(s, p, places, name) else {
+    let Found::At(t) = catalog::get_table(s, p, places, name) else {
         return false;
     };
     let at = row_test::key_at(layout::table_record(s, p, places, t), p);
@@ -67,7 +67,7 @@ fn are_held(s: &[u8], p: Profile, places: usize, row: &[u8], rec: &[u8]) -> bool
     let count = rec[26] as usize;
     let mut i = 0;
     while i < count {
-        let c = schema::read_column(rec, p, i);
+        let c = catalog::read_column(rec, p, i);
         let d = row_test::cell_at(row, i);
         let v = d.value;
         if !is_held(s, p, places, c, v) {
@@ -83,7 +83,7 @@ fn is_linked(s: &[u8], p: Profile, places: usize, row: &[u8]) -> bool
     requires { ⌜ Tabled p places (now s) × (length (now row) ≡ rowWidth p) ⌝ }
     ensures { λ r. ⌜ r ≡ referencesHeld ((parse p places (now (s .entry))) .tables) ((parse p places (now (s .entry))) .rows) (readRow p ((parse p places (now (s .entry))) .tables) (now (row .entry))) ⌝ }
 {
-    let Found::At(i) = schema::get_table(s, p, places, cell::read_name(row)) else {
+    let Found::At(i) = catalog::get_table(s, p, places, cell::read_name(row)) else {
         return false;
     };
     are_held(s, p, places, row, layout::table_record(s, p, places, i))

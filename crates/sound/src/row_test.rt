@@ -1,9 +1,9 @@
 // The test of the rows: each is a record that fits its table, and they are sorted by table and key.
+use laid::catalog;
+use laid::catalog::Column;
+use laid::catalog::Found;
+use laid::layout;
 use rules::profile::Profile;
-use store::layout;
-use store::schema;
-use store::schema::Column;
-use store::schema::Found;
 use values::bytes;
 use values::cell;
 use values::search;
@@ -23,10 +23,10 @@ ghost use Rattle.rules.specs.Profile.{rowWidth};
 ghost use Rattle.rules.specs.State.{cmpRow};
 ghost use Rattle.rules.specs.Layout.{lists, readTable, readRow, parse};
 ghost use Rattle.rules.specs.Sound.{every, sorted, everyCell};
-ghost use Rattle.store.specs.Store.{Coded};
+ghost use Rattle.laid.specs.Store.{Coded};
 ghost use Rattle.sound.specs.Tested.{Schemed, fitting, cellsIn, fitsTable, isRow};
-ghost use Rattle.store.specs.Column.{columnOf};
-ghost use Rattle.store.specs.Catalog.{TableBytes};
+ghost use Rattle.laid.specs.Column.{columnOf};
+ghost use Rattle.laid.specs.Catalog.{TableBytes};
 
 // Whether the first `count` cells of a row's record are cells.
 fn are_cells(row: &[u8], p: Profile, count: usize) -> bool
@@ -72,7 +72,7 @@ fn are_fitting(row: &[u8], rec: &[u8], p: Profile) -> bool
     let count = rec[26] as usize;
     let mut i = 0;
     while i < count {
-        let c = schema::read_column(rec, p, i);
+        let c = catalog::read_column(rec, p, i);
         let d = cell_at(row, i);
         let v = d.value;
         if !is_fitting(c, v) {
@@ -118,7 +118,7 @@ fn is_row(s: &[u8], p: Profile, places: usize, row: &[u8]) -> bool
     requires { ⌜ Schemed p places (now s) × (length (now row) ≡ rowWidth p) ⌝ }
     ensures { λ r. ⌜ r ≡ isRow p ((parse p places (now (s .entry))) .tables) (now (row .entry)) ⌝ }
 {
-    let Found::At(i) = schema::get_table(s, p, places, cell::read_name(row)) else {
+    let Found::At(i) = catalog::get_table(s, p, places, cell::read_name(row)) else {
         return false;
     };
     if !cell::is_name_cell(&row[0..25]) {
@@ -149,7 +149,7 @@ fn is_row_before(s: &[u8], p: Profile, places: usize, a: &[u8], b: &[u8]) -> boo
     ensures { λ r. ⌜ r ≡ isLt (cmpRow (readRow p ((parse p places (now (s .entry))) .tables) (now (a .entry))) (readRow p ((parse p places (now (s .entry))) .tables) (now (b .entry)))) ⌝ }
 {
     let name = cell::read_name(b);
-    let Found::At(i) = schema::get_table(s, p, places, name) else {
+    let Found::At(i) = catalog::get_table(s, p, places, name) else {
         return false;
     };
     let at = key_at(layout::table_record(s, p, places, i), p);

@@ -1,7 +1,7 @@
 // The test of the schemas: each is a table's record, they are sorted by name, and each passes 4 to 18.
+use laid::layout;
 use rules::answer;
 use rules::profile::Profile;
-use store::layout;
 use store::schema;
 use values::bytes;
 use values::cell;
@@ -21,9 +21,9 @@ ghost use Rattle.rules.specs.State.{cmpTable};
 ghost use Rattle.rules.specs.Schema.{schemaFault};
 ghost use Rattle.rules.specs.Layout.{lists, readTable, parse};
 ghost use Rattle.rules.specs.Sound.{every, sorted, faultless};
-ghost use Rattle.store.specs.Store.{Coded, Inside};
+ghost use Rattle.laid.specs.Store.{Coded, Inside};
 ghost use Rattle.sound.specs.Tested.{isColumn, isTable};
-ghost use Rattle.store.specs.Catalog.{TableBytes, Catalog};
+ghost use Rattle.laid.specs.Catalog.{TableBytes, Catalog};
 
 // A default where its flag is set, zeros where not.
 fn is_default(part: &[u8], set: bool) -> bool

@@ -5,13 +5,13 @@ use super::layout_test;
 use super::reference_test;
 use super::row_test;
 use super::schema_test;
+use laid::layout;
 use rules::profile;
 use rules::profile::Profile;
-use store::layout;
 ghost use mathlib.Core.Path.{_≡_};
 ghost use Rattle.rules.specs.Profile.{full};
 ghost use Rattle.rules.specs.Sound.{sound};
-ghost use Rattle.store.specs.Store.{Coded};
+ghost use Rattle.laid.specs.Store.{Coded};
 
 // Whether the bytes are a sound store.
 pub fn is_sound_of(s: &[u8], p: Profile) -> bool

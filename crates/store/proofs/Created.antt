@@ -34,16 +34,17 @@ use Rattle.rules.proofs.Laid.{laid-count, laid-within, laid-grows, laid-grown, 
 use Rattle.rules.proofs.Lists.{any-none}
 use Rattle.rules.proofs.Room.{indexed}
 use Rattle.rules.proofs.Tests.{name-is}
-use Rattle.store.specs.Store.{Store, Stored}
-use Rattle.store.specs.Catalog.{TableBytes, before, placeOf, faultOf, RunIn}
-use Rattle.store.specs.declared.schema.Fault as D
-use Rattle.store.proofs.ByName.{run-in, tables-fall, tables-ranked}
+use Rattle.laid.specs.Store.{Store, Stored}
+use Rattle.laid.specs.Catalog.{TableBytes, before, placeOf, RunIn}
+use Rattle.checks.specs.Faults.{faultOf}
+use Rattle.checks.specs.declared.schema_fault.Fault as D
+use Rattle.walks.proofs.ByName.{run-in, tables-fall, tables-ranked}
 use Rattle.store.proofs.Dropped.{table-found}
-use Rattle.store.proofs.Finding.{place-missing}
+use Rattle.laid.proofs.Finding.{place-missing}
 use Rattle.store.proofs.Outcomes.{create-known, create-faulty, create-full, create-new, unchanged}
-use Rattle.store.proofs.Runs.{run-ranked, run-place}
-use Rattle.store.proofs.Searching.{tables-count}
-use Rattle.store.proofs.Stores.{store-valid, store-laid, store-lists}
+use Rattle.laid.proofs.Runs.{run-ranked, run-place}
+use Rattle.laid.proofs.Searching.{tables-count}
+use Rattle.laid.proofs.Stores.{store-valid, store-laid, store-lists}
 
 module _ (p : Profile) (R : ℕ) (s : List ℕ) (b : Store p R s) (rec : List ℕ) (k : TableBytes p rec) (n : Name) (en : n ≡ readName rec) where
   abbrev now : State

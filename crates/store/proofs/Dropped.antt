@@ -32,13 +32,14 @@ use Rattle.rules.proofs.Laid.{laid-shrinks, laid-shrunk}
 use Rattle.rules.proofs.Lists.{below-nth}
 use Rattle.rules.proofs.Removed.{withRows, without, drop-comes}
 use Rattle.rules.proofs.Room.{indexed}
-use Rattle.store.specs.Store.{Store, Stored}
+use Rattle.laid.specs.Store.{Store, Stored}
 use Rattle.store.specs.declared.local.Reference.{Reference}
-use Rattle.store.specs.Catalog.{placeOf, referenceOf, RunIn, RunOut}
-use Rattle.store.proofs.ByName.{entriesOutside, rowsOutside, run-in, run-left, entries-fall, entries-gone, rows-fall, rows-gone}
-use Rattle.store.proofs.Finding.{place-found, place-missing, no-place, place-rank}
+use Rattle.laid.specs.Catalog.{placeOf, RunIn, RunOut}
+use Rattle.store.specs.Referenced.{referenceOf}
+use Rattle.walks.proofs.ByName.{entriesOutside, rowsOutside, run-in, run-left, entries-fall, entries-gone, rows-fall, rows-gone}
+use Rattle.laid.proofs.Finding.{place-found, place-missing, no-place, place-rank}
 use Rattle.store.proofs.Outcomes.{drop-unknown, drop-nothing, drop-referenced, drop-known, unchanged}
-use Rattle.store.proofs.Stores.{store-valid, store-laid}
+use Rattle.laid.proofs.Stores.{store-valid, store-laid}
 
 -- the table at the place that is found
 pub table-found : (ts : List Table) (n : Name) (i : ℕ) → some i ≡ placeOf (isNamed n) ts → (t : Table) × (tableNamed ts n ≡ some t)

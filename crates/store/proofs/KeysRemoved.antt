@@ -25,18 +25,18 @@ use Rattle.rules.proofs.Removed.{withRows, stays, removals-come}
 use Rattle.rules.proofs.Tests.{and-left, name-is}
 use Rattle.rules.proofs.Valid.{LaidState, laid-of}
 use Rattle.rules.proofs.Whole.{parse-image}
-use Rattle.store.specs.declared.referrer.Referrer.{Referrer}
-use Rattle.store.specs.Catalog.{placeOf}
-use Rattle.store.specs.Keys.{valuesFrom}
-use Rattle.store.specs.Referring.{referrerOf}
+use Rattle.walks.specs.declared.referrer.Referrer.{Referrer}
+use Rattle.laid.specs.Catalog.{placeOf}
+use Rattle.checks.specs.Keys.{valuesFrom}
+use Rattle.walks.specs.Referring.{referrerOf}
 use Rattle.store.specs.Removed.{removalsIn, Removes}
-use Rattle.store.specs.Row.{rowIn, tableIn, RowOf}
-use Rattle.store.specs.Store.{LaidStore, Store, Stored}
-use Rattle.store.proofs.Finding.{place-found, place-missing}
-use Rattle.store.proofs.Keyed.{row-at}
+use Rattle.laid.specs.Row.{rowIn, tableIn, RowOf}
+use Rattle.laid.specs.Store.{LaidStore, Store, Stored}
+use Rattle.laid.proofs.Finding.{place-found, place-missing}
+use Rattle.laid.proofs.Keyed.{row-at}
 use Rattle.store.proofs.Outcomes.{unchanged}
-use Rattle.store.proofs.RowFacts.{table-there}
-use Rattle.store.proofs.Stores.{held-state, held-inside}
+use Rattle.laid.proofs.RowFacts.{table-there}
+use Rattle.laid.proofs.Stores.{held-state, held-inside}
 
 -- ---- fewer rows
 

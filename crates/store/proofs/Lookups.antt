@@ -18,18 +18,18 @@ use Rattle.rules.specs.Layout.{lists, parse}
 use Rattle.rules.specs.Request.{ok, no}
 use Rattle.rules.specs.Schema.{first, at}
 use Rattle.rules.specs.Step.{isIndexed, lookup}
-use Rattle.store.specs.declared.schema.Column.{Column}
-use Rattle.store.specs.Store.{LaidStore}
-use Rattle.store.specs.Column.{columnOf, columnAt}
-use Rattle.store.specs.Catalog.{placeOf}
-use Rattle.store.specs.Row.{tableIn}
-use Rattle.store.specs.Asked.{indexedAt}
-use Rattle.store.specs.Looked.{keysWith}
-use Rattle.store.proofs.Finding.{nth-past, place-found, place-missing}
-use Rattle.store.proofs.Columns.{count-byte, columns-few, column-nth, columnsOf}
-use Rattle.store.proofs.Checking.{place-some, no-rows}
-use Rattle.store.proofs.Fitting.{rec-bytes, table-is}
-use Rattle.store.proofs.RowFacts.{table-there}
+use Rattle.laid.specs.declared.catalog.Column.{Column}
+use Rattle.laid.specs.Store.{LaidStore}
+use Rattle.laid.specs.Column.{columnOf, columnAt}
+use Rattle.laid.specs.Catalog.{placeOf}
+use Rattle.laid.specs.Row.{tableIn}
+use Rattle.checks.specs.Asked.{indexedAt}
+use Rattle.walks.specs.Looked.{keysWith}
+use Rattle.laid.proofs.Finding.{nth-past, place-found, place-missing}
+use Rattle.laid.proofs.Columns.{count-byte, columns-few, column-nth, columnsOf}
+use Rattle.checks.proofs.Checking.{place-some, no-rows}
+use Rattle.checks.proofs.Fitting.{rec-bytes, table-is}
+use Rattle.laid.proofs.RowFacts.{table-there}
 
 -- what is not found has no place
 nowhere : {A : Type 0} (q : A → Bool) (xs : List A) → isSome (find q xs) ≡ false → none ≡ placeOf q xs

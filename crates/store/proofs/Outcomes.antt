@@ -16,7 +16,7 @@ use Rattle.rules.specs.Request.{Reply, said, ok, no, Carried, noCarrying}
 use Rattle.rules.specs.Schema.{first, at, schemaFault}
 use Rattle.rules.specs.Rows.{tableReferenced}
 use Rattle.rules.specs.Step.{created, dropped, removed, Outcome, did, refused, applyAll, createFault, create, drop}
-use Rattle.store.specs.Store.{Store, Stored}
+use Rattle.laid.specs.Store.{Store, Stored}
 
 -- ---- create
 

@@ -16,12 +16,12 @@ use Rattle.rules.specs.declared.profile.Profile.{Profile}
 use Rattle.rules.specs.State.{Name, Column, Table}
 use Rattle.rules.specs.Layout.{lists, readTable, parse}
 use Rattle.rules.specs.Rows.{refersTo, firstReference, tableReferenced}
-use Rattle.store.specs.declared.schema.Column as D
-use Rattle.store.specs.Column.{columnOf, ColumnRead}
-use Rattle.store.specs.declared.schema.Found.{Found}
-use Rattle.store.specs.Catalog.{TableBytes, foundAt}
-use Rattle.store.proofs.Columns.{columnsOf, column-drop}
-use Rattle.store.proofs.Finding.{drop-nth}
+use Rattle.laid.specs.declared.catalog.Column as D
+use Rattle.laid.specs.Column.{columnOf, ColumnRead}
+use Rattle.laid.specs.declared.catalog.Found.{Found}
+use Rattle.laid.specs.Catalog.{TableBytes, foundAt}
+use Rattle.laid.proofs.Columns.{columnsOf, column-drop}
+use Rattle.laid.proofs.Finding.{drop-nth}
 use Rattle.store.proofs.TableAt.{table-nth}
 
 -- what is found, where an answer is known

@@ -15,11 +15,11 @@ use Rattle.values.specs.declared.value.Text.{Text}
 use Rattle.rules.specs.declared.profile.Profile.{Profile}
 use Rattle.rules.specs.State.{Table}
 use Rattle.rules.specs.Layout.{lists, Schemas, tablesCount, readTable, parse}
-use Rattle.store.specs.Catalog.{TableBytes, Catalog, TableName}
-use Rattle.store.proofs.Inside.{area-count}
-use Rattle.store.proofs.Columns.{record-least}
-use Rattle.store.proofs.Finding.{nth-map, nth-getD}
-use Rattle.store.proofs.Searching.{tables-read, tables-count}
+use Rattle.laid.specs.Catalog.{TableBytes, Catalog, TableName}
+use Rattle.laid.proofs.Inside.{area-count}
+use Rattle.laid.proofs.Columns.{record-least}
+use Rattle.laid.proofs.Finding.{nth-map, nth-getD}
+use Rattle.laid.proofs.Searching.{tables-read, tables-count}
 
 all-getD : {A : Type 0} (P : A → Type 0) (xs : List A) (i : ℕ) (d : A) → All P xs → i < length xs → P (getD xs i d)
 all-getD P [] i d h l = absurd (not-suc-le-zero l)

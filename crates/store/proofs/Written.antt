@@ -25,7 +25,7 @@ use Rattle.rules.specs.Layout.{image, parse, unknown}
 use Rattle.rules.specs.Request.{Pair, Reply, said, ok, no, Carried, carriedBy, noCarrying, withGone}
 use Rattle.rules.specs.Rows.{rowFault, rowReferenced}
 use Rattle.rules.specs.Sound.{every, canonical}
-use Rattle.rules.specs.Step.{Change, added, replaced, withRow, apply, applyAll, Outcome, did, refused, insertRow, sameKey, reinsert, otherKey, pair, removals}
+use Rattle.rules.specs.Step.{Change, added, replaced, withRow, apply, applyAll, Outcome, did, refused, isAccepted, atPlace, numbered, insertRow, sameKey, reinsert, otherKey, pair, removals}
 use Rattle.rules.proofs.Asked.{Ready}
 use Rattle.rules.proofs.Catalog.{stored-named}
 use Rattle.rules.proofs.Cells.{row-passes}
@@ -33,22 +33,24 @@ use Rattle.rules.proofs.Kept.{put-valid, valid-keeps}
 use Rattle.rules.proofs.Removed.{applyAll-append, withRows, stays, removals-come}
 use Rattle.rules.proofs.Tests.{and-left, and-right, and-both, name-is}
 use Rattle.rules.proofs.Trip.{range-canonical}
+use Rattle.rules.proofs.Turns.{numbered-accepted, numbered-no}
 use Rattle.rules.proofs.Valid.{Valid, valid-of, laid-of, valid-laid}
 use Rattle.rules.proofs.Whole.{parse-image}
-use Rattle.store.specs.declared.row.Row.{Row}
-use Rattle.store.specs.declared.referrer.Referrer.{Referrer}
-use Rattle.store.specs.Store.{Store, Stored}
-use Rattle.store.specs.Catalog.{placeOf, kindOfFault}
-use Rattle.store.specs.Row.{cellsOf, NormalCell, rowIn, tableIn, Addable, Replaceable, FullRow}
-use Rattle.store.specs.Referring.{referrerOf}
+use Rattle.laid.specs.declared.row.Row.{Row}
+use Rattle.walks.specs.declared.referrer.Referrer.{Referrer}
+use Rattle.laid.specs.Store.{Store, Stored}
+use Rattle.laid.specs.Catalog.{placeOf}
+use Rattle.checks.specs.Faults.{kindOfFault}
+use Rattle.laid.specs.Row.{cellsOf, NormalCell, rowIn, tableIn, Addable, Replaceable, FullRow}
+use Rattle.walks.specs.Referring.{referrerOf}
 use Rattle.store.specs.Removed.{removalsIn, Removes}
-use Rattle.store.proofs.Faulting.{Told, told, or-told, first-passes}
-use Rattle.store.proofs.Finding.{place-found, place-missing}
-use Rattle.store.proofs.Fitting.{cells-told}
-use Rattle.store.proofs.Keyed.{row-at}
+use Rattle.checks.proofs.Faulting.{Told, told, or-told, first-passes}
+use Rattle.laid.proofs.Finding.{place-found, place-missing}
+use Rattle.checks.proofs.Fitting.{cells-told}
+use Rattle.laid.proofs.Keyed.{row-at}
 use Rattle.store.proofs.Outcomes.{unchanged}
-use Rattle.store.proofs.RowFacts.{table-held}
-use Rattle.store.proofs.Stores.{store-valid, laid-store}
+use Rattle.laid.proofs.RowFacts.{table-held}
+use Rattle.laid.proofs.Stores.{store-valid, laid-store}
 
 -- ---- a store again after a change
 
@@ -123,6 +125,11 @@ module _ (p : Profile) (R : ℕ) (t : Table) (st : State) (q : Pair) where
   unfolding pair
   pair-other e = rw e
 
+-- the row or pair with number m is refused, and nothing changes
+refused-at : (p : Profile) (R : ℕ) (s : List ℕ) → Store p R s → (m : ℕ) (o : Outcome) (r : Reply) → o ≡ refused r → isAccepted r ≡ false
+    → (a : Answer) → said a ≡ atPlace m r → Stored p R (numbered m o) s s a
+refused-at p R s b m o r e g a h = unchanged p R s b (numbered m o) (atPlace m r) (ap (numbered m) e ∙ numbered-no m (refused r) g) a h
+
 -- ---- a full row
 
 cells-canonical : (cs : List Cell) → All ProperCell cs → All NormalCell cs → every canonical (map held cs) ≡ true
@@ -156,11 +163,12 @@ module _ (p : Profile) (R : ℕ) (s : List ℕ) (b : Store p R s) (t : ℕ) (row
   with-row : (u : Bool) → rowFault p R st T u v ≡ none → Valid p R (withRows st (withRow (rowOf T v) (st .rows)))
   with-row u h = put-valid p R st T u v own-named row-ready (row-passes p R st T u v h) (store-valid p R s b)
 
-  -- ---- an insert
+  -- ---- an insert, the row with number m
 
   module _ (k : Refusal) (ek : k ≡ kindOfFault (rowFault p R st T false v)) where
-    pub insert-refused : eqb (numberOf k) 0 ≡ false → (a : Answer) → said a ≡ no k 0 → Stored p R (insertRow p R T st v) s s a
-    insert-refused g a h = unchanged p R s b (insertRow p R T st v) (no k 0) (insert-faulty p R T st v k (fault-told k (rowFault p R st T false v) ek g)) a h
+    pub insert-refused : eqb (numberOf k) 0 ≡ false → (m : ℕ) (a : Answer) → said a ≡ no k m → Stored p R (numbered m (insertRow p R T st v)) s s a
+    insert-refused g m a h =
+        refused-at p R s b m (insertRow p R T st v) (no k 0) (insert-faulty p R T st v k (fault-told k (rowFault p R st T false v) ek g)) g a h
 
     module _ (g : eqb (numberOf k) 0 ≡ true) where
       insert-free : rowFault p R st T false v ≡ none
@@ -175,24 +183,26 @@ module _ (p : Profile) (R : ℕ) (s : List ℕ) (b : Store p R s) (t : ℕ) (row
             laid = laid-of p R (withRows st (withRow (rowOf T v) (st .rows))) (valid-laid (with-row false insert-free));
           }
 
-      pub row-inserted : (s₁ : List ℕ) → s₁ ≡ image p R (apply (added (rowOf T v)) st) → (a : Answer) → said a ≡ ok 1 → Stored p R (insertRow p R T st v) s s₁ a
+      pub row-inserted : (s₁ : List ℕ) → s₁ ≡ image p R (apply (added (rowOf T v)) st) → (m : ℕ) (a : Answer) → said a ≡ ok 1
+          → Stored p R (numbered m (insertRow p R T st v)) s s₁ a
       unfolding applyAll
-      row-inserted s₁ e a h = rw (insert-passes p R T st v insert-free) (record { answer = h; bytes = e })
+      row-inserted s₁ e m a h = rw (insert-passes p R T st v insert-free) (record { answer = h; bytes = e })
 
   -- ---- a row in place of the one with its key
 
   module _ (k : Refusal) (ek : k ≡ kindOfFault (rowFault p R st T true v)) where
-    pub same-refused : eqb (numberOf k) 0 ≡ false → (a : Answer) → said a ≡ no k 0 → Stored p R (sameKey p R T st v) s s a
-    same-refused g a h = unchanged p R s b (sameKey p R T st v) (no k 0) (same-faulty p R T st v k (fault-told k (rowFault p R st T true v) ek g)) a h
+    pub same-refused : eqb (numberOf k) 0 ≡ false → (m : ℕ) (a : Answer) → said a ≡ no k m → Stored p R (numbered m (sameKey p R T st v)) s s a
+    same-refused g m a h =
+        refused-at p R s b m (sameKey p R T st v) (no k 0) (same-faulty p R T st v k (fault-told k (rowFault p R st T true v) ek g)) g a h
 
     module _ (g : eqb (numberOf k) 0 ≡ true) (n : Name) (en : n ≡ T .name) (key : Value) (ey : key ≡ keyOf T v) where
       same-free : rowFault p R st T true v ≡ none
       same-free = first-passes k (rowFault p R st T true v) ek (row-told p R st T true v) g
 
-      pub same-nothing : none ≡ placeOf (isRow n key) (st .rows) → (a : Answer) → said a ≡ ok 1 → Stored p R (sameKey p R T st v) s s a
-      same-nothing e a h =
-          unchanged p R s b (sameKey p R T st v) (ok 1)
-          (same-absent p R T st v same-free (rw (en, ey) at (place-missing (isRow n key) (st .rows) (sym e)))) a h
+      pub same-nothing : none ≡ placeOf (isRow n key) (st .rows) → (m : ℕ) (a : Answer) → said a ≡ ok 1 → Stored p R (numbered m (sameKey p R T st v)) s s a
+      same-nothing e m a h =
+          unchanged p R s b (numbered m (sameKey p R T st v)) (ok 1)
+          (ap (numbered m) (same-absent p R T st v same-free (rw (en, ey) at (place-missing (isRow n key) (st .rows) (sym e))))) a h
 
       module _ (i : ℕ) (e : some i ≡ placeOf (isRow n key) (st .rows)) where
         stored : i < length (st .rows)
@@ -213,9 +223,10 @@ module _ (p : Profile) (R : ℕ) (s : List ℕ) (b : Store p R s) (t : ℕ) (row
               laid = laid-of p R (withRows st (withRow (rowOf T v) (st .rows))) (valid-laid (with-row true same-free));
             }
 
-        pub row-replaced : (s₁ : List ℕ) → s₁ ≡ image p R (apply (replaced (rowIn p R s i) (rowOf T v)) st) → (a : Answer) → said a ≡ ok 1 → Stored p R (sameKey p R T st v) s s₁ a
+        pub row-replaced : (s₁ : List ℕ) → s₁ ≡ image p R (apply (replaced (rowIn p R s i) (rowOf T v)) st) → (m : ℕ) (a : Answer) → said a ≡ ok 1
+            → Stored p R (numbered m (sameKey p R T st v)) s s₁ a
         unfolding applyAll
-        row-replaced s₁ q a h = rw (same-passes p R T st v (rowIn p R s i) same-free (rw (en, ey) at found)) (record { answer = h; bytes = q })
+        row-replaced s₁ q m a h = rw (same-passes p R T st v (rowIn p R s i) same-free (rw (en, ey) at found)) (record { answer = h; bytes = q })
 
   -- ---- the old key's row goes, and then an insert
 
@@ -227,11 +238,12 @@ module _ (p : Profile) (R : ℕ) (s : List ℕ) (b : Store p R s) (t : ℕ) (row
     cs = removalsIn p R s t (old ∷ [])
 
     pub referenced-kept : (r : Referrer) → r .found ≡ true → (n : Name) → n ≡ T .name → (ks : List Value) → ks ≡ old ∷ [] → referrerOf r ≡ rowReferenced (st .rows) n ks (st .tables)
-        → (a : Answer) → said a ≡ noCarrying RowReferenced 0 (carriedBy (textBytes (r .table)) (r .column) (held (r .key))) → Stored p R (otherKey p R T st q) s s a
-    referenced-kept r w n en ks eks e a h =
+        → (m : ℕ) (a : Answer) → said a ≡ noCarrying RowReferenced m (carriedBy (textBytes (r .table)) (r .column) (held (r .key)))
+        → Stored p R (numbered m (otherKey p R T st q)) s s a
+    referenced-kept r w n en ks eks e m a h =
         let x : Carried = carriedBy (textBytes (r .table)) (r .column) (held (r .key)) in
         let y : rowReferenced (st .rows) (T .name) (old ∷ []) (st .tables) ≡ some x = sym (rw (w, en, eks) at e) in
-        unchanged p R s b (otherKey p R T st q) (noCarrying RowReferenced 0 x) (other-referenced p R T st q x y) a h
+        refused-at p R s b m (otherKey p R T st q) (noCarrying RowReferenced 0 x) (other-referenced p R T st q x y) refl a h
 
     module _ (r : Referrer) (w : r .found ≡ false) (n : Name) (en : n ≡ T .name) (ks : List Value) (eks : ks ≡ old ∷ []) (er : referrerOf r ≡ rowReferenced (st .rows) n ks (st .tables))
         (s₁ : List ℕ) (e₁ : Removes p R s t (old ∷ []) s₁) where
@@ -267,15 +279,19 @@ module _ (p : Profile) (R : ℕ) (s : List ℕ) (b : Store p R s) (t : ℕ) (row
             normal = f .normal;
           }
 
-      module _ (a : Answer) (s₂ : List ℕ) (h : Stored p R (insertRow p R (tableIn p R s₁ t) (parse p R s₁) v) s₁ s₂ a) where
+      module _ (m : ℕ) (a : Answer) (s₂ : List ℕ) (h : Stored p R (numbered m (insertRow p R (tableIn p R s₁ t) (parse p R s₁) v)) s₁ s₂ a) where
         abbrev after : Outcome
         after = insertRow p R T (applyAll cs st) v
 
         outcome-is : insertRow p R (tableIn p R s₁ t) (parse p R s₁) v ≡ after
         outcome-is = ap (λ (x : Table). insertRow p R x (parse p R s₁) v) gone-table ∙ ap (λ (x : State). insertRow p R T x v) gone-reads
 
-        answered : said a ≡ after .reply
-        answered = h .answer ∙ ap (λ (o : Outcome). o .reply) outcome-is
+        answered : said a ≡ (numbered m after) .reply
+        answered = h .answer ∙ ap (λ (o : Outcome). (numbered m o) .reply) outcome-is
+
+        accepted-as : (o : Outcome) → after ≡ o → eqb (numberOf (a .kind)) 0 ≡ isAccepted (o .reply)
+        accepted-as o e =
+            ap (λ (r : Reply). isAccepted r) answered ∙ numbered-accepted m after ∙ ap (λ (o : Outcome). isAccepted (o .reply)) e
 
         bytes-are : s₂ ≡ image p R (applyAll (after .changes) (applyAll cs st))
         bytes-are =
@@ -290,51 +306,51 @@ module _ (p : Profile) (R : ℕ) (s : List ℕ) (b : Store p R s) (t : ℕ) (row
         abbrev fault : Option Refusal
         fault = rowFault p R (applyAll cs st) T false v
 
-        accepted-by : (o : Option Refusal) → fault ≡ o → Told o → eqb (numberOf (a .kind)) 0 ≡ true → Stored p R (otherKey p R T st q) s s₂ a
+        accepted-by : (o : Option Refusal) → fault ≡ o → Told o → eqb (numberOf (a .kind)) 0 ≡ true → Stored p R (numbered m (otherKey p R T st q)) s s₂ a
         unfolding applyAll
         accepted-by none e w g =
             let i = insert-passes p R T (applyAll cs st) v e in
             rw (other-is ∙ again-passes p R T (applyAll cs st) v cs e)
             (record {
-              answer = answered ∙ ap (λ (o : Outcome). o .reply) i;
+              answer = answered ∙ ap (λ (o : Outcome). (numbered m o) .reply) i;
               bytes =
                   bytes-are
                   ∙ ap (λ (o : Outcome). image p R (applyAll (o .changes) (applyAll cs st))) i
                   ∙ ap (image p R) (sym (applyAll-append cs (added (rowOf T v) ∷ []) st));
             })
         accepted-by (some k) e w g =
-            absurd
-            (true≢false
-            (sym g
-            ∙ ap (λ (x : Reply). eqb (numberOf (x .kind)) 0) (answered ∙ ap (λ (o : Outcome). o .reply) (insert-faulty p R T (applyAll cs st) v k e))
-            ∙ w))
+            absurd (true≢false (sym g ∙ accepted-as _ (insert-faulty p R T (applyAll cs st) v k e) ∙ w))
 
-        pub again-accepted : eqb (numberOf (a .kind)) 0 ≡ true → Stored p R (otherKey p R T st q) s s₂ a
+        pub again-accepted : eqb (numberOf (a .kind)) 0 ≡ true → Stored p R (numbered m (otherKey p R T st q)) s s₂ a
         again-accepted g = accepted-by fault refl (row-told p R (applyAll cs st) T false v) g
 
         module _ (went : Bool) (eg : went ≡ not (isNil cs)) (x : Answer) (ex : said x ≡ withGone went (said a)) where
-          refused-by : (o : Option Refusal) → fault ≡ o → eqb (numberOf (a .kind)) 0 ≡ false → Stored p R (otherKey p R T st q) s s₂ x
+          refused-by : (o : Option Refusal) → fault ≡ o → eqb (numberOf (a .kind)) 0 ≡ false → Stored p R (numbered m (otherKey p R T st q)) s s₂ x
           unfolding applyAll
           refused-by none e g =
-              absurd
-              (true≢false
-              (sym (ap (λ (y : Reply). eqb (numberOf (y .kind)) 0) (answered ∙ ap (λ (o : Outcome). o .reply) (insert-passes p R T (applyAll cs st) v e))) ∙ g))
+              absurd (true≢false (sym (accepted-as _ (insert-passes p R T (applyAll cs st) v e)) ∙ g))
           refused-by (some k) e g =
               let i = insert-faulty p R T (applyAll cs st) v k e in
-              rw (other-is ∙ again-faulty p R T (applyAll cs st) v cs k e)
+              let f : eqb (numberOf k) 0 ≡ false = sym (accepted-as (refused (no k 0)) i) ∙ g in
+              let over : Outcome = record { changes = cs; lines = []; reply = withGone (not (isNil cs)) (no k 0) } in
+              subst (λ (o : Outcome). Stored p R o s s₂ x)
+              (sym (ap (numbered m) (other-is ∙ again-faulty p R T (applyAll cs st) v cs k e) ∙ numbered-no m over f))
               (record {
-                answer = ex ∙ ap (λ (y : Bool). withGone y (said a)) eg ∙ ap (withGone (not (isNil cs))) (answered ∙ ap (λ (o : Outcome). o .reply) i);
+                answer =
+                    ex
+                    ∙ ap (λ (y : Bool). withGone y (said a)) eg
+                    ∙ ap (withGone (not (isNil cs))) (answered ∙ ap (λ (o : Outcome). o .reply) (ap (numbered m) i ∙ numbered-no m (refused (no k 0)) f));
                 bytes = bytes-are ∙ ap (λ (o : Outcome). image p R (applyAll (o .changes) (applyAll cs st))) i;
               })
 
-          pub again-refused : eqb (numberOf (a .kind)) 0 ≡ false → Stored p R (otherKey p R T st q) s s₂ x
+          pub again-refused : eqb (numberOf (a .kind)) 0 ≡ false → Stored p R (numbered m (otherKey p R T st q)) s s₂ x
           again-refused g = refused-by fault refl g
 
     -- ---- either
 
-    module _ (key : Value) (ey : key ≡ keyOf T v) (s₁ : List ℕ) (a : Answer) where
-      pub pair-with-same : same old key ≡ true → Stored p R (sameKey p R T st v) s s₁ a → Stored p R (pair p R T st q) s s₁ a
+    module _ (key : Value) (ey : key ≡ keyOf T v) (m : ℕ) (s₁ : List ℕ) (a : Answer) where
+      pub pair-with-same : same old key ≡ true → Stored p R (numbered m (sameKey p R T st v)) s s₁ a → Stored p R (numbered m (pair p R T st q)) s s₁ a
       pair-with-same g h = rw (pair-same p R T st q (rw ey at g)) h
 
-      pub pair-with-other : same old key ≡ false → Stored p R (otherKey p R T st q) s s₁ a → Stored p R (pair p R T st q) s s₁ a
+      pub pair-with-other : same old key ≡ false → Stored p R (numbered m (otherKey p R T st q)) s s₁ a → Stored p R (numbered m (pair p R T st q)) s s₁ a
       pair-with-other g h = rw (pair-other p R T st q (rw ey at g)) h

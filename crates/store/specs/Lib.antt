@@ -1,12 +1,2 @@
-pub mod Store
-pub mod Column
-pub mod Catalog
-pub mod Faults
-pub mod Row
-pub mod Entered
-pub mod Asked
-pub mod Keys
-pub mod Referring
-pub mod Spans
-pub mod Looked
 pub mod Removed
+pub mod Referenced

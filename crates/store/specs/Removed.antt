@@ -9,8 +9,8 @@ use Rattle.rules.specs.declared.profile.Profile.{Profile}
 use Rattle.rules.specs.Layout.{image, parse}
 use Rattle.rules.specs.Request.{Pair}
 use Rattle.rules.specs.Step.{Change, applyAll, removals}
-use Rattle.store.specs.declared.row.Row.{Row}
-use Rattle.store.specs.Row.{cellsOf, tableIn}
+use Rattle.laid.specs.declared.row.Row.{Row}
+use Rattle.laid.specs.Row.{cellsOf, tableIn}
 
 -- what goes with the keys from the table at place t
 unfoldable pub removalsIn : Profile → ℕ → List ℕ → ℕ → List Value → List Change

@@ -1,7 +1,10 @@
 // The catalog (local.rs: `create_table`, `drop_table`, `list_tables`, `table_references`).
-use super::layout;
 use super::schema;
-use super::schema::Found;
+use changes::drop;
+use laid::catalog;
+use laid::catalog::Found;
+pub use laid::catalog::get_table;
+use laid::layout;
 use rules::answer;
 use rules::answer::Answer;
 use rules::answer::Refusal;
@@ -14,16 +17,15 @@ use values::value::Order;
 use values::value::Text;
 use values::value::Value;
 ghost use mathlib.Core.Path.{_≡_};
-ghost use Prim.Native.Nat.{_+_, _-_, _*_, _≤_, _<_};
-ghost use lib.ListN.{length, getD, drop};
+ghost use Prim.Native.Nat.{_<_};
+ghost use lib.ListN.{length};
 ghost use Rattle.values.specs.Meaning.{textBytes, Packed};
-ghost use Rattle.values.specs.Cell.{nameWidth};
-ghost use Rattle.values.specs.Records.{records};
-ghost use Rattle.rules.specs.Layout.{readTable, parse, lists, Rows, Entries};
+ghost use Rattle.rules.specs.Layout.{readTable, parse};
 ghost use Rattle.rules.specs.Rows.{firstReference, tableReferenced};
 ghost use Rattle.rules.specs.Step.{create, drop as dropped};
-ghost use Rattle.store.specs.Store.{Inside, Store, Stored};
-ghost use Rattle.store.specs.Catalog.{TableBytes, Catalog, foundAt, referenceOf, runFrom, RunIn, RunOut, TableName};
+ghost use Rattle.laid.specs.Store.{Store, Stored};
+ghost use Rattle.laid.specs.Catalog.{TableBytes, Catalog, foundAt, TableName};
+ghost use Rattle.store.specs.Referenced.{referenceOf};
 
 // The first table that references another, and its first referencing column.
 pub struct Reference {
@@ -46,7 +48,7 @@ pub fn create_table(s: &mut [u8], p: Profile, places: usize, rec: &[u8]) -> Answ
     ensures { λ r. ⌜ Stored p places (create p (parse p places (now (s .entry))) (readTable p (now (rec .entry)))) (now (s .entry)) (now (s .exit)) r ⌝ }
 {
     let name = cell::read_name(rec);
-    if let Found::At(_) = schema::get_table(s, p, places, name) {
+    if let Found::At(_) = catalog::get_table(s, p, places, name) {
         return answer::refused(Refusal::TableExists, 0);
     }
     let f = schema::validate(s, p, places, rec);
@@ -73,7 +75,7 @@ fn first_reference(rec: &[u8], p: Profile, name: Text) -> Found
     let count = rec[26] as usize;
     let mut j = 0;
     while j < count {
-        let c = schema::read_column(rec, p, j);
+        let c = catalog::read_column(rec, p, j);
         if c.references {
             match value::compare_texts(name, c.reference) {
                 Order::Same => {
@@ -124,59 +126,12 @@ pub fn table_references(s: &[u8], p: Profile, places: usize, name: Text) -> Refe
     }
 }
 
-// How many of the `count` records from place `at` on start with `name`.
-pub fn run_from(area: &[u8], width: usize, count: usize, at: usize, name: Text) -> usize
-    requires { ⌜ (nameWidth ≤ width) × (count * width ≤ length (now area)) × (at ≤ count) × Packed name ⌝ }
-    ensures { λ r. ⌜ r ≡ runFrom (textBytes name) (drop at (records width count (now (area .entry)))) ⌝ }
-{
-    let mut end = at;
-    while end < count {
-        let from = end * width;
-        let to = from + width;
-        match search::compare_named(&area[from..to], name) {
-            Order::Same => {
-                end += 1;
-            }
-            _ => {
-                return end - at;
-            }
-        }
-    }
-    end - at
-}
-
-// Takes a table's rows out, all at once.
-fn drop_rows(s: &mut [u8], p: Profile, places: usize, name: Text)
-    requires { ⌜ RunIn p places Rows (textBytes name) (now s) × Packed name ⌝ }
-    ensures { λ _. ⌜ RunOut p places Rows (textBytes name) (now (s .entry)) (now (s .exit)) ⌝ }
-{
-    let count = layout::row_count(s);
-    let width = layout::row_width(p);
-    let from = layout::rows_at(p);
-    let i = search::named_before(&s[from..], count, width, name);
-    let n = run_from(&s[from..], width, count, i, name);
-    area::close_counted(s, 6, 2, from, places, width, i, n);
-}
-
-// Takes a table's index entries out, all at once.
-fn drop_entries(s: &mut [u8], p: Profile, places: usize, name: Text)
-    requires { ⌜ RunIn p places Entries (textBytes name) (now s) × Packed name ⌝ }
-    ensures { λ _. ⌜ RunOut p places Entries (textBytes name) (now (s .entry)) (now (s .exit)) ⌝ }
-{
-    let count = layout::entry_count(s);
-    let width = layout::entry_width(p);
-    let from = layout::entries_at(p, places);
-    let i = search::named_before(&s[from..], count, width, name);
-    let n = run_from(&s[from..], width, count, i, name);
-    area::close_counted(s, 8, 4, from, p.entries * places, width, i, n);
-}
-
 // Takes a table out of the catalog: 2 unless `lenient` (if-exists), 20; its rows and index entries go with it.
 pub fn drop_table(s: &mut [u8], p: Profile, places: usize, name: Text, lenient: bool) -> Answer
     requires { ⌜ Store p places (now s) × Packed name ⌝ }
     ensures { λ r. ⌜ Stored p places (dropped (parse p places (now (s .entry))) (textBytes name) lenient) (now (s .entry)) (now (s .exit)) r ⌝ }
 {
-    let Found::At(i) = schema::get_table(s, p, places, name) else {
+    let Found::At(i) = catalog::get_table(s, p, places, name) else {
         if lenient {
             return answer::accepted(0);
         }
@@ -184,10 +139,10 @@ pub fn drop_table(s: &mut [u8], p: Profile, places: usize, name: Text, lenient: 
     };
     let r = table_references(s, p, places, name);
     if r.found {
-        return answer::carrying(Refusal::TableReferenced, r.table, r.column, Value::Null);
+        return answer::carrying(Refusal::TableReferenced, 0, r.table, r.column, Value::Null);
     }
-    drop_entries(s, p, places, name);
-    drop_rows(s, p, places, name);
+    drop::drop_entries(s, p, places, name);
+    drop::drop_rows(s, p, places, name);
     area::close_counted(s, 5, 1, 12, p.tables, layout::schema_width(p), i, 1);
     answer::accepted(1)
 }

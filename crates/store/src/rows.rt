@@ -1,12 +1,12 @@
 // Writes of rows (local.rs: `insert`, `update`, `delete`): one full row, one pair, a request's keys.
-use super::change;
-use super::check;
-use super::layout;
-use super::referrer;
-use super::row;
-use super::row::Row;
 use super::schema;
-use super::schema::Found;
+use changes::change;
+use checks::row_fault;
+use laid::catalog;
+use laid::catalog::Found;
+use laid::layout;
+use laid::row;
+use laid::row::Row;
 use rules::answer;
 use rules::answer::Answer;
 use rules::answer::Refusal;
@@ -16,6 +16,7 @@ use values::read;
 use values::read::ReadCell;
 use values::value::Text;
 use values::value::Value;
+use walks::referrer;
 ghost use mathlib.Core.Path.{_≡_};
 ghost use mathlib.Core.Bool.{not};
 ghost use mathlib.Core.List.{[], _∷_};
@@ -24,20 +25,20 @@ ghost use lib.ListN.{length};
 ghost use Rattle.values.specs.Meaning.{textBytes, Packed, meaning, Proper};
 ghost use Rattle.values.specs.Basic.{isNil};
 ghost use Rattle.rules.specs.Layout.{parse};
-ghost use Rattle.rules.specs.Step.{insertRow, delete as deleted, sameKey, otherKey, pair};
-ghost use Rattle.store.specs.Store.{LaidStore, Store, Stored};
-ghost use Rattle.store.specs.Row.{cellsOf, tableIn, FullRow};
-ghost use Rattle.store.specs.Keys.{valuesFrom};
+ghost use Rattle.rules.specs.Step.{numbered, insertRow, delete as deleted, sameKey, otherKey, pair};
+ghost use Rattle.laid.specs.Store.{LaidStore, Store, Stored};
+ghost use Rattle.laid.specs.Row.{cellsOf, tableIn, FullRow};
+ghost use Rattle.checks.specs.Keys.{valuesFrom};
 ghost use Rattle.store.specs.Removed.{removalsIn, Removes, pairOf};
 
-// Adds a full row to the table at place t: 26, 27; each column 28 to 31; 33, 36.
-pub fn insert(s: &mut [u8], p: Profile, places: usize, t: usize, row: Row) -> Answer
+// Adds a full row, the request's row number n, to the table at place t: 26, 27; each column 28 to 31; 33, 36.
+pub fn insert(s: &mut [u8], p: Profile, places: usize, t: usize, n: usize, row: Row) -> Answer
     requires { ⌜ Store p places (now s) × FullRow p places (now s) t row ⌝ }
-    ensures { λ r. ⌜ Stored p places (insertRow p places (tableIn p places (now (s .entry)) t) (parse p places (now (s .entry))) (cellsOf row)) (now (s .entry)) (now (s .exit)) r ⌝ }
+    ensures { λ r. ⌜ Stored p places (numbered n (insertRow p places (tableIn p places (now (s .entry)) t) (parse p places (now (s .entry))) (cellsOf row))) (now (s .entry)) (now (s .exit)) r ⌝ }
 {
-    let k = check::validate_row(s, p, places, t, row, false);
+    let k = schema::validate_row(s, p, places, t, row, false);
     if !answer::is_accepted(k) {
-        return answer::refused(k, 0);
+        return answer::refused(k, n);
     }
     change::add_row(s, p, places, t, row);
     answer::accepted(1)
@@ -49,7 +50,7 @@ fn remove_key(s: &mut [u8], p: Profile, places: usize, t: usize, key: Value) -> 
     ensures { λ r. ⌜ Removes p places (now (s .entry)) t (meaning key ∷ []) (now (s .exit)) × (r ≡ not (isNil (removalsIn p places (now (s .entry)) t (meaning key ∷ [])))) ⌝ }
 {
     let name = cell::read_name(layout::table_record(s, p, places, t));
-    let column = schema::key_column(layout::table_record(s, p, places, t));
+    let column = catalog::key_column(layout::table_record(s, p, places, t));
     match row::find_row(s, p, places, name, column, key) {
         Found::At(i) => {
             change::remove_row(s, p, places, t, i);
@@ -103,29 +104,29 @@ pub fn delete(
     requires { ⌜ Store p places (now s) × Packed name ⌝ }
     ensures { λ r. ⌜ Stored p places (deleted (parse p places (now (s .entry))) (textBytes name) (valuesFrom (now (rec .entry)) count at)) (now (s .entry)) (now (s .exit)) r ⌝ }
 {
-    let Found::At(t) = schema::get_table(s, p, places, name) else {
+    let Found::At(t) = catalog::get_table(s, p, places, name) else {
         return answer::refused(Refusal::UnknownTable, 0);
     };
     let r = referrer::row_references(s, p, places, name, rec, at, count);
     if r.found {
         let k = r.key;
         let key = k.value;
-        return answer::carrying(Refusal::RowReferenced, r.table, r.column, key);
+        return answer::carrying(Refusal::RowReferenced, 0, r.table, r.column, key);
     }
     answer::accepted(remove_keys(s, p, places, t, rec, at, count))
 }
 
 // A row in place of the stored one with its key: 26; each column 28 to 31; 34; 36.
-fn same_key(s: &mut [u8], p: Profile, places: usize, t: usize, row: Row) -> Answer
+fn same_key(s: &mut [u8], p: Profile, places: usize, t: usize, n: usize, row: Row) -> Answer
     requires { ⌜ Store p places (now s) × FullRow p places (now s) t row ⌝ }
-    ensures { λ r. ⌜ Stored p places (sameKey p places (tableIn p places (now (s .entry)) t) (parse p places (now (s .entry))) (cellsOf row)) (now (s .entry)) (now (s .exit)) r ⌝ }
+    ensures { λ r. ⌜ Stored p places (numbered n (sameKey p places (tableIn p places (now (s .entry)) t) (parse p places (now (s .entry))) (cellsOf row))) (now (s .entry)) (now (s .exit)) r ⌝ }
 {
-    let f = check::validate_row(s, p, places, t, row, true);
+    let f = schema::validate_row(s, p, places, t, row, true);
     if !answer::is_accepted(f) {
-        return answer::refused(f, 0);
+        return answer::refused(f, n);
     }
     let name = cell::read_name(layout::table_record(s, p, places, t));
-    let column = schema::key_column(layout::table_record(s, p, places, t));
+    let column = catalog::key_column(layout::table_record(s, p, places, t));
     let cells = row.cells;
     let k = cells[column];
     let key = k.value;
@@ -142,23 +143,24 @@ fn other_key(
     p: Profile,
     places: usize,
     t: usize,
+    n: usize,
     rec: &[u8],
     at: usize,
     old: Value,
     row: Row,
 ) -> Answer
     requires { ⌜ Store p places (now s) × FullRow p places (now s) t row × Proper old × (valuesFrom (now rec) 1 at ≡ meaning old ∷ []) ⌝ }
-    ensures { λ r. ⌜ Stored p places (otherKey p places (tableIn p places (now (s .entry)) t) (parse p places (now (s .entry))) (pairOf old row)) (now (s .entry)) (now (s .exit)) r ⌝ }
+    ensures { λ r. ⌜ Stored p places (numbered n (otherKey p places (tableIn p places (now (s .entry)) t) (parse p places (now (s .entry))) (pairOf old row))) (now (s .entry)) (now (s .exit)) r ⌝ }
 {
     let name = cell::read_name(layout::table_record(s, p, places, t));
     let r = referrer::row_references(s, p, places, name, rec, at, 1);
     if r.found {
         let k = r.key;
         let key = k.value;
-        return answer::carrying(Refusal::RowReferenced, r.table, r.column, key);
+        return answer::carrying(Refusal::RowReferenced, n, r.table, r.column, key);
     }
     let gone = remove_key(s, p, places, t, old);
-    let a = insert(s, p, places, t, row);
+    let a = insert(s, p, places, t, n, row);
     let kind = a.kind;
     if answer::is_accepted(kind) {
         return a;
@@ -166,26 +168,27 @@ fn other_key(
     answer::with_gone(a, gone)
 }
 
-// One pair of an update of the table at place t: the row in place of the old one, or, where the key differs, a delete and then an insert.
+// One pair, the request's pair number n, of an update of the table at place t: the row in place of the old one, or, where the key differs, a delete and then an insert.
 pub fn update(
     s: &mut [u8],
     p: Profile,
     places: usize,
     t: usize,
+    n: usize,
     rec: &[u8],
     at: usize,
     old: Value,
     row: Row,
 ) -> Answer
     requires { ⌜ Store p places (now s) × FullRow p places (now s) t row × Proper old × (valuesFrom (now rec) 1 at ≡ meaning old ∷ []) ⌝ }
-    ensures { λ r. ⌜ Stored p places (pair p places (tableIn p places (now (s .entry)) t) (parse p places (now (s .entry))) (pairOf old row)) (now (s .entry)) (now (s .exit)) r ⌝ }
+    ensures { λ r. ⌜ Stored p places (numbered n (pair p places (tableIn p places (now (s .entry)) t) (parse p places (now (s .entry))) (pairOf old row))) (now (s .entry)) (now (s .exit)) r ⌝ }
 {
-    let column = schema::key_column(layout::table_record(s, p, places, t));
+    let column = catalog::key_column(layout::table_record(s, p, places, t));
     let cells = row.cells;
     let k = cells[column];
     let key = k.value;
-    if check::is_same(old, key) {
-        return same_key(s, p, places, t, row);
+    if row_fault::is_same(old, key) {
+        return same_key(s, p, places, t, n, row);
     }
-    other_key(s, p, places, t, rec, at, old, row)
+    other_key(s, p, places, t, n, rec, at, old, row)
 }

@@ -11,7 +11,6 @@ use values::value;
 use values::value::Cell;
 use values::value::Order;
 use values::value::Value;
-ghost use mathlib.Core.Path.{_≡_};
 ghost use Rattle.values.specs.Meaning.{ProperCell};
 
 // A space and a word.

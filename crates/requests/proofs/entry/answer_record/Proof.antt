@@ -2,11 +2,11 @@
 use mathlib.Core.Path.{ap, _∙_}
 use native.Mathlib.Omega.{arith}
 use denote.Ref.{now}
-use Rattle.store.proofs.Stores.{laid-store}
-use Rattle.requests.specs.Record.{requestOf}
+use Rattle.laid.proofs.Stores.{laid-store}
+use Rattle.records.specs.Record.{requestOf}
 use Rattle.rules.specs.Layout.{parse}
-use Rattle.requests.specs.Told.{outcomeOf}
-use Rattle.requests.proofs.Entered.{walked-got, walked-broken, operands-got}
+use Rattle.operations.specs.Told.{outcomeOf}
+use Rattle.operations.proofs.Entered.{walked-got, walked-broken, operands-got}
 use Rattle.requests.proofs.Answering.{broken-outcome, reply-is, read-answered, write-answered, broken-answered}
 use borrow.Author.Needs.{needs}
 use Rattle.requests.proofs.entry.answer_record.Statement.{statement}

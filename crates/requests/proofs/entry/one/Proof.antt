@@ -7,8 +7,8 @@ use Rattle.values.specs.Read.{Read}
 use Rattle.rules.specs.Profile.{full}
 use Rattle.rules.specs.Layout.{parse}
 use Rattle.rules.specs.Request.{Request}
-use Rattle.store.specs.Store.{Stored}
-use Rattle.requests.specs.Told.{outcomeOf}
+use Rattle.laid.specs.Store.{Stored}
+use Rattle.operations.specs.Told.{outcomeOf}
 use Rattle.requests.specs.Stream.{wholeOf}
 use Rattle.requests.proofs.Lending.{full-coded, sound-store, lent-unsound, lent-stored, lent-broken, whole-least, whole-longer, whole-says, no-whole, not-whole}
 use borrow.Author.Needs.{needs}

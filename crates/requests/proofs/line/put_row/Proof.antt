@@ -7,7 +7,7 @@ use denote.Ref.{now}
 use borrow.Author.Needs.{needs}
 use borrow.Rule.Slice.PartMut.{same-len-mid}
 use Rattle.values.specs.Meaning.{held}
-use Rattle.store.specs.Row.{rowIn}
+use Rattle.laid.specs.Row.{rowIn}
 use Rattle.requests.specs.Lines.{rowMost}
 use Rattle.requests.proofs.Fronts.{behind-long}
 use Rattle.requests.proofs.RowLines.{Begun, row-long, begun, begun-next, line-row}

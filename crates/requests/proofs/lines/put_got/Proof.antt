@@ -9,14 +9,14 @@ use borrow.Author.Needs.{needs}
 use Rattle.values.specs.Meaning.{textBytes, held}
 use Rattle.rules.specs.State.{isRow}
 use Rattle.rules.specs.Layout.{parse}
-use Rattle.store.specs.Catalog.{placeOf}
-use Rattle.store.specs.Keys.{valuesFrom}
-use Rattle.store.specs.Row.{rowIn}
+use Rattle.laid.specs.Catalog.{placeOf}
+use Rattle.checks.specs.Keys.{valuesFrom}
+use Rattle.laid.specs.Row.{rowIn}
 use Rattle.store.proofs.References.{answer-is}
-use Rattle.store.proofs.Taking.{null-proper}
+use Rattle.checks.proofs.Taking.{null-proper}
 use Rattle.requests.proofs.NextLines.{Passing, passing-read, passing-start, passing-on, passing-missing, passing-found, passing-end, row-inside, row-found, row-named, got-lined, got-none}
-use Rattle.store.proofs.KeysRead.{values-end, values-got, values-broken}
-use Rattle.requests.proofs.ValuesFrom.{cell-proper}
+use Rattle.checks.proofs.KeysRead.{values-end, values-got, values-broken}
+use Rattle.operations.proofs.ValuesFrom.{cell-proper}
 use Rattle.requests.proofs.lines.put_got.Statement.{statement}
 use Rattle.requests.proofs.lines.put_got.Tie as tie
 

@@ -17,14 +17,14 @@ use Rattle.values.specs.declared.value.Cell.{Cell}
 use Rattle.rules.specs.declared.profile.Profile.{Profile}
 use Rattle.rules.specs.Layout.{parse}
 use Rattle.rules.specs.Request.{Names, Reply}
-use Rattle.requests.specs.Got.{gotOr}
-use Rattle.requests.specs.Record.{requestOf}
-use Rattle.requests.specs.Told.{outcomeOf}
+use Rattle.operations.specs.Got.{gotOr}
+use Rattle.records.specs.Record.{requestOf}
+use Rattle.operations.specs.Told.{outcomeOf}
 use Rattle.requests.specs.Places.{linesFrom}
-use Rattle.requests.proofs.Entered.{read-entered}
+use Rattle.operations.proofs.Entered.{read-entered}
 use Rattle.requests.proofs.LinesLeft.{lines-start, lines-counted, Going, going-start, turn-ends, ended-less, turn-more, turn-less, turn-skips, turn-stays, turn-writes, end-stays, end-writes}
-use Rattle.store.proofs.Stores.{laid-store}
-use Rattle.store.proofs.Taking.{null-proper}
+use Rattle.laid.proofs.Stores.{laid-store}
+use Rattle.checks.proofs.Taking.{null-proper}
 use Rattle.requests.proofs.lines.put_lines.Statement.{statement}
 use Rattle.requests.proofs.lines.put_lines.Tie as tie
 

@@ -5,11 +5,11 @@ use borrow.Author.Needs.{needs}
 use Rattle.values.specs.Meaning.{textBytes, meaning, held}
 use Rattle.rules.specs.State.{isNamed}
 use Rattle.rules.specs.Layout.{parse}
-use Rattle.store.specs.Catalog.{placeOf}
-use Rattle.store.specs.Keys.{valuesFrom}
+use Rattle.laid.specs.Catalog.{placeOf}
+use Rattle.checks.specs.Keys.{valuesFrom}
 use Rattle.store.proofs.Lookups.{table-known, column-indexed}
 use Rattle.store.proofs.References.{answer-is}
-use Rattle.store.proofs.Stores.{held-catalog}
+use Rattle.laid.proofs.Stores.{held-catalog}
 use Rattle.requests.proofs.NextLines.{lined, none-lined, lookup-no-table, lookup-no-index, lookup-ended, lookup-first}
 use Rattle.requests.proofs.lines.put_looked.Statement.{statement}
 use Rattle.requests.proofs.lines.put_looked.Tie as tie

@@ -3,9 +3,9 @@ use mathlib.Core.Path.{refl}
 use borrow.Author.Needs.{needs}
 use Rattle.values.specs.Meaning.{Proper}
 use Rattle.values.specs.Value.{null}
-use Rattle.store.proofs.Inside.{inside-header}
-use Rattle.store.proofs.Stores.{held-inside, held-catalog}
-use Rattle.store.proofs.Taking.{null-proper}
+use Rattle.laid.proofs.Inside.{inside-header}
+use Rattle.laid.proofs.Stores.{held-inside, held-catalog}
+use Rattle.checks.proofs.Taking.{null-proper}
 use Rattle.requests.proofs.NextLines.{lined, none-lined, names-ended, names-inside, names-first}
 use Rattle.requests.proofs.lines.put_named.Statement.{statement}
 use Rattle.requests.proofs.lines.put_named.Tie as tie

@@ -9,10 +9,10 @@ use Rattle.values.specs.Meaning.{textBytes}
 use Rattle.values.specs.Value.{null}
 use Rattle.rules.specs.State.{ofTable}
 use Rattle.rules.specs.Layout.{parse}
-use Rattle.store.specs.Catalog.{placeOf}
+use Rattle.laid.specs.Catalog.{placeOf}
 use Rattle.store.proofs.References.{answer-is}
-use Rattle.store.proofs.Stores.{held-state}
-use Rattle.store.proofs.Taking.{null-proper}
+use Rattle.laid.proofs.Stores.{held-state}
+use Rattle.checks.proofs.Taking.{null-proper}
 use Rattle.requests.proofs.NextLines.{lined, none-lined, scan-ended, scan-inside, scan-named, scan-first}
 use Rattle.requests.proofs.lines.put_scanned.Statement.{statement}
 use Rattle.requests.proofs.lines.put_scanned.Tie as tie

@@ -6,11 +6,11 @@ use borrow.Author.Needs.{needs}
 use Rattle.values.specs.Meaning.{textBytes}
 use Rattle.rules.specs.State.{isNamed}
 use Rattle.rules.specs.Layout.{parse}
-use Rattle.store.specs.Catalog.{placeOf}
+use Rattle.laid.specs.Catalog.{placeOf}
 use Rattle.store.proofs.References.{answer-is}
-use Rattle.store.proofs.RowFacts.{start-least}
-use Rattle.store.proofs.Searching.{found-within}
-use Rattle.store.proofs.Stores.{held-inside, held-catalog}
+use Rattle.laid.proofs.RowFacts.{start-least}
+use Rattle.laid.proofs.Searching.{found-within}
+use Rattle.laid.proofs.Stores.{held-inside, held-catalog}
 use Rattle.requests.proofs.NextLines.{table-stored, table-inside, cells-counted, cells-few}
 use Rattle.requests.proofs.lines.put_stored.Statement.{statement}
 use Rattle.requests.proofs.lines.put_stored.Tie as tie

@@ -3,7 +3,7 @@ use mathlib.Core.Path.{_≡_}
 use Prim.Native.Nat.{_-_, _+_, _*_, _≤_, _<_}
 use native.Mathlib.Omega.{arith}
 use Rattle.rules.specs.Layout.{Rows}
-use Rattle.store.proofs.Inside.{inside-header, area-count}
+use Rattle.laid.proofs.Inside.{inside-header, area-count}
 use Rattle.sound.proofs.AreaWalks.{below, wide-of}
 use Rattle.sound.proofs.Linking.{wantedFrom, wanted-next, wanted-end}
 use Rattle.sound.proofs.index_test.all_entries.Statement.{statement}

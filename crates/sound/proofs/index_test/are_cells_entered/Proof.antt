@@ -6,10 +6,10 @@ use lib.ListN.{length, getD, length-take, length-drop}
 use Rattle.values.specs.Meaning.{textBytes, meaning}
 use Rattle.rules.specs.Profile.{rowWidth}
 use Rattle.rules.specs.Layout.{parse, readTable, readRow}
-use Rattle.store.specs.Column.{columnOf}
+use Rattle.laid.specs.Column.{columnOf}
 use Rattle.sound.specs.Tested.{cellsIn, entriesIn, enteredAs, enteredCell}
 use Rattle.rules.specs.Index.{Entry}
-use Rattle.store.proofs.Columns.{count-byte, columns-few, record-least}
+use Rattle.laid.proofs.Columns.{count-byte, columns-few, record-least}
 use Rattle.sound.proofs.Walks.{Cells}
 use Rattle.sound.proofs.Rowing.{row-cell-fits, row-stop, row-next, row-end}
 use Rattle.sound.proofs.EntryTests.{entry-is}

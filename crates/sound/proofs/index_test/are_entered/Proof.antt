@@ -5,7 +5,7 @@ use native.Mathlib.Omega.{arith}
 use lib.ListN.{drop}
 use Rattle.rules.specs.Layout.{Rows, lists, parse, readRow}
 use Rattle.rules.specs.Sound.{every}
-use Rattle.store.proofs.Inside.{inside-header}
+use Rattle.laid.proofs.Inside.{inside-header}
 use Rattle.sound.proofs.AreaWalks.{below, wide-of, walk-stop, walk-next, walk-end}
 use Rattle.sound.specs.Tested.{enteredRow, entriesIn}
 use Rattle.sound.proofs.Rowing.{rows-every-is}

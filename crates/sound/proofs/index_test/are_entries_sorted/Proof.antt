@@ -6,7 +6,7 @@ use lib.ListN.{drop}
 use Rattle.rules.specs.Index.{cmpEntry}
 use Rattle.rules.specs.Layout.{Entries, lists, readEntry}
 use Rattle.rules.specs.Sound.{sorted}
-use Rattle.store.proofs.Inside.{inside-header}
+use Rattle.laid.proofs.Inside.{inside-header}
 use Rattle.sound.proofs.Asking.{entries-sorted-is}
 use Rattle.sound.proofs.AreaWalks.{below, wide-of, rising-stop, rising-next, rising-end}
 use Rattle.sound.proofs.index_test.are_entries_sorted.Statement.{statement}

@@ -3,8 +3,8 @@ use mathlib.Core.Path.{_≡_, refl}
 use Prim.Native.Nat.{_-_, _+_, _≤_, _<_}
 use native.Mathlib.Omega.{arith}
 use lib.ListN.{getD}
-use Rattle.store.specs.Column.{columnOf}
-use Rattle.store.proofs.Columns.{count-byte, columns-few, record-least}
+use Rattle.laid.specs.Column.{columnOf}
+use Rattle.laid.proofs.Columns.{count-byte, columns-few, record-least}
 use Rattle.sound.proofs.Linking.{indexedFrom, counted-next, counted-end, one-most}
 use borrow.Author.Needs.{needs}
 use Rattle.sound.proofs.index_test.indexed_columns.Statement.{statement}

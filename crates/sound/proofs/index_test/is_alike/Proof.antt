@@ -4,7 +4,7 @@ use native.Mathlib.Omega.{arith}
 use lib.ListN.{length}
 use Rattle.values.specs.Meaning.{textBytes, meaning}
 use Rattle.rules.specs.Profile.{entryWidth}
-use Rattle.store.proofs.Searching.{same-is, not-same}
+use Rattle.laid.proofs.Searching.{same-is, not-same}
 use Rattle.sound.proofs.EntryTests.{group-other, group-column, group-value}
 use borrow.Author.Needs.{needs}
 use Rattle.sound.proofs.index_test.is_alike.Statement.{statement}

@@ -1,6 +1,6 @@
 -- `sound::index_test::is_cell_entered` meets its contract. Assumes nothing.
 use Rattle.values.specs.Meaning.{textBytes, meaning}
-use Rattle.store.specs.Column.{columnOf}
+use Rattle.laid.specs.Column.{columnOf}
 use Rattle.sound.specs.Tested.{entryOf, entriesIn}
 use Rattle.sound.proofs.EntryTests.{entered-not, entered-asked}
 use borrow.Author.Needs.{needs}

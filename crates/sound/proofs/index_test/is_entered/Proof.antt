@@ -7,8 +7,8 @@ use Rattle.values.specs.Meaning.{textBytes, meaning}
 use Rattle.rules.specs.Profile.{entryWidth}
 use Rattle.rules.specs.Layout.{Entries}
 use Rattle.rules.proofs.Widths.{area-within}
-use Rattle.store.proofs.Inside.{inside-header}
-use Rattle.store.proofs.Searching.{same-is, not-same}
+use Rattle.laid.proofs.Inside.{inside-header}
+use Rattle.laid.proofs.Searching.{same-is, not-same}
 use Rattle.sound.proofs.AreaWalks.{below, wide-of}
 use Rattle.sound.proofs.EntryTests.{entries-searched, entry-past, entry-elsewhere, entry-any, entry-last, entry-next}
 use borrow.Author.Needs.{needs}

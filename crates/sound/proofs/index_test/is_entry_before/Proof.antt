@@ -4,7 +4,8 @@ use native.Mathlib.Omega.{arith}
 use lib.ListN.{length}
 use Rattle.values.proofs.Answers.{not-less}
 use Rattle.rules.specs.Profile.{entryWidth}
-use Rattle.sound.proofs.Asking.{entered-order, less-is, less-not}
+use Rattle.sound.proofs.Asking.{entered-order}
+use Rattle.laid.proofs.Searching.{less-is, less-not}
 use borrow.Author.Needs.{needs}
 use Rattle.sound.proofs.index_test.is_entry_before.Statement.{statement}
 use Rattle.sound.proofs.index_test.is_entry_before.Tie as tie

@@ -5,9 +5,9 @@ use native.Mathlib.Omega.{arith}
 use lib.ListN.{length, getD}
 use Rattle.rules.specs.Layout.{parse, readTable}
 use Rattle.rules.specs.Sound.{held}
-use Rattle.store.specs.Column.{columnOf}
+use Rattle.laid.specs.Column.{columnOf}
 use Rattle.sound.specs.Tested.{cellsIn}
-use Rattle.store.proofs.Columns.{count-byte, columns-few, record-least}
+use Rattle.laid.proofs.Columns.{count-byte, columns-few, record-least}
 use Rattle.sound.proofs.Walks.{Cells}
 use Rattle.sound.proofs.Rowing.{row-cell-fits, row-stop, row-next, row-end}
 use Rattle.sound.proofs.reference_test.are_held.Statement.{statement}

@@ -7,10 +7,10 @@ use Rattle.values.specs.Meaning.{textBytes, meaning}
 use Rattle.rules.specs.Profile.{rowWidth}
 use Rattle.rules.specs.Layout.{Rows}
 use Rattle.rules.proofs.Widths.{area-within}
-use Rattle.store.specs.Catalog.{foundAt}
+use Rattle.laid.specs.Catalog.{foundAt}
 use Rattle.sound.specs.Tested.{Here}
-use Rattle.store.proofs.Inside.{inside-header}
-use Rattle.store.proofs.Searching.{found-within, same-is, not-same}
+use Rattle.laid.proofs.Inside.{inside-header}
+use Rattle.laid.proofs.Searching.{found-within, same-is, not-same}
 use Rattle.sound.proofs.AreaWalks.{below, wide-of}
 use Rattle.sound.proofs.Rowing.{here-of}
 use Rattle.sound.proofs.Placed.{has-nowhere, rows-searched, row-past, row-here}

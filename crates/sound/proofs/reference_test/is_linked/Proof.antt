@@ -8,9 +8,9 @@ use Rattle.values.specs.Meaning.{textBytes}
 use Rattle.rules.specs.Profile.{rowWidth}
 use Rattle.rules.specs.State.{tableNamed}
 use Rattle.rules.specs.Layout.{parse, readTable}
-use Rattle.store.specs.Catalog.{foundAt}
+use Rattle.laid.specs.Catalog.{foundAt}
 use Rattle.sound.specs.Tested.{Here}
-use Rattle.store.proofs.Searching.{found-within}
+use Rattle.laid.proofs.Searching.{found-within}
 use Rattle.sound.proofs.Rowing.{here-of, nowhere}
 use Rattle.sound.proofs.Linking.{linked-nowhere, linked-here}
 use borrow.Author.Needs.{needs}

@@ -4,9 +4,9 @@ use Prim.Native.Nat.{_-_, _≤_, _<_}
 use native.Mathlib.Omega.{arith}
 use lib.ListN.{length, getD}
 use Rattle.rules.specs.Layout.{readTable}
-use Rattle.store.specs.Column.{columnOf}
+use Rattle.laid.specs.Column.{columnOf}
 use Rattle.sound.specs.Tested.{fitting, cellsIn}
-use Rattle.store.proofs.Columns.{count-byte, columns-few, record-least}
+use Rattle.laid.proofs.Columns.{count-byte, columns-few, record-least}
 use Rattle.sound.proofs.Walks.{Cells}
 use Rattle.sound.proofs.Rowing.{row-cell-fits, row-stop, row-next, row-end}
 use borrow.Author.Needs.{needs}

@@ -6,7 +6,7 @@ use lib.ListN.{drop}
 use Rattle.rules.specs.State.{cmpRow}
 use Rattle.rules.specs.Layout.{Rows, lists, parse, readRow}
 use Rattle.rules.specs.Sound.{sorted}
-use Rattle.store.proofs.Inside.{inside-header}
+use Rattle.laid.proofs.Inside.{inside-header}
 use Rattle.sound.specs.Tested.{isRow}
 use Rattle.sound.proofs.Rowing.{rows-sorted-is, row-at}
 use Rattle.sound.proofs.AreaWalks.{below, wide-of, rising-stop, rising-next, rising-end}

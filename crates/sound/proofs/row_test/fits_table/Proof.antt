@@ -3,7 +3,7 @@ use mathlib.Core.Path.{refl}
 use Prim.Native.Nat.{_+_, _*_, _≤_}
 use native.Mathlib.Omega.{arith}
 use lib.ListN.{length, getD}
-use Rattle.store.proofs.Columns.{count-byte, columns-few, record-least}
+use Rattle.laid.proofs.Columns.{count-byte, columns-few, record-least}
 use Rattle.sound.proofs.Rowing.{row-cells-fit, fits-1, fits-2, fits-3, fits-4}
 use borrow.Author.Needs.{needs}
 use Rattle.sound.proofs.row_test.fits_table.Statement.{statement}

@@ -1,6 +1,6 @@
 -- `sound::row_test::is_fitting` meets its contract. Assumes nothing.
 use Rattle.values.specs.Meaning.{meaning}
-use Rattle.store.specs.Column.{columnOf}
+use Rattle.laid.specs.Column.{columnOf}
 use Rattle.sound.proofs.Rowing.{fitting-null, fitting-kind}
 use borrow.Author.Needs.{needs}
 use Rattle.sound.proofs.row_test.is_fitting.Statement.{statement}

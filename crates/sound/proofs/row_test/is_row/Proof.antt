@@ -7,9 +7,9 @@ use lib.ListN.{length, getD}
 use Rattle.values.specs.Meaning.{textBytes}
 use Rattle.rules.specs.Profile.{rowWidth}
 use Rattle.rules.specs.Layout.{lists}
-use Rattle.store.specs.Catalog.{foundAt}
+use Rattle.laid.specs.Catalog.{foundAt}
 use Rattle.sound.specs.Tested.{Here}
-use Rattle.store.proofs.Searching.{found-within}
+use Rattle.laid.proofs.Searching.{found-within}
 use Rattle.sound.proofs.Rowing.{here-of, row-nowhere, row-misnamed, row-fits}
 use borrow.Author.Needs.{needs}
 use Rattle.sound.proofs.row_test.is_row.Statement.{statement}

@@ -6,10 +6,10 @@ use lib.ListN.{length}
 use Rattle.values.specs.Meaning.{textBytes}
 use Rattle.values.proofs.Answers.{not-less}
 use Rattle.rules.specs.Profile.{rowWidth}
-use Rattle.store.specs.Catalog.{foundAt}
+use Rattle.laid.specs.Catalog.{foundAt}
 use Rattle.sound.specs.Tested.{Here}
-use Rattle.store.proofs.Searching.{found-within}
-use Rattle.sound.proofs.Asking.{less-is, less-not}
+use Rattle.laid.proofs.Searching.{found-within}
+use Rattle.laid.proofs.Searching.{less-is, less-not}
 use Rattle.sound.proofs.Rowing.{here-of, first-nowhere, first-order}
 use borrow.Author.Needs.{needs}
 use Rattle.sound.proofs.row_test.is_row_before.Statement.{statement}

@@ -4,7 +4,7 @@ use Prim.Native.Nat.{ℕ, _+_, _*_, _≤_}
 use native.Mathlib.Omega.{arith}
 use lib.ListN.{getD}
 use Rattle.rules.specs.Profile.{rowWidth}
-use Rattle.store.proofs.Columns.{key-byte, record-least}
+use Rattle.laid.proofs.Columns.{key-byte, record-least}
 use Rattle.sound.proofs.Rowing.{key-fits}
 use Rattle.sound.proofs.row_test.key_at.Statement.{statement}
 use Rattle.sound.proofs.row_test.key_at.Tie as tie

@@ -5,12 +5,12 @@ use native.Mathlib.Omega.{arith}
 use lib.ListN.{drop}
 use Rattle.rules.specs.Layout.{Schemas, lists, parse, readTable}
 use Rattle.rules.specs.Sound.{every}
-use Rattle.store.proofs.Inside.{inside-header}
+use Rattle.laid.proofs.Inside.{inside-header}
 use Rattle.sound.proofs.AreaWalks.{below, walk-stop, walk-next, walk-end}
 use Rattle.values.specs.Basic.{isNone}
 use Rattle.rules.specs.Schema.{schemaFault}
-use Rattle.store.specs.Catalog.{TableBytes}
-use Rattle.store.proofs.Searching.{table-bytes-at}
+use Rattle.laid.specs.Catalog.{TableBytes}
+use Rattle.laid.proofs.Searching.{table-bytes-at}
 use Rattle.sound.proofs.Rowing.{faultless-walk}
 use Rattle.sound.proofs.schema_test.are_faultless.Statement.{statement}
 use Rattle.sound.proofs.schema_test.are_faultless.Tie as tie

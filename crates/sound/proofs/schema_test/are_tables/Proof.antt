@@ -6,7 +6,7 @@ use lib.ListN.{drop}
 use Rattle.rules.specs.Layout.{Schemas, lists}
 use Rattle.rules.specs.Sound.{every}
 use Rattle.sound.specs.Tested.{isTable}
-use Rattle.store.proofs.Inside.{inside-header}
+use Rattle.laid.proofs.Inside.{inside-header}
 use Rattle.sound.proofs.AreaWalks.{below, wide-of, walk-stop, walk-next, walk-end}
 use Rattle.sound.proofs.schema_test.are_tables.Statement.{statement}
 use Rattle.sound.proofs.schema_test.are_tables.Tie as tie

@@ -7,7 +7,7 @@ use Rattle.rules.specs.State.{cmpTable}
 use Rattle.rules.specs.Profile.{schemaWidth}
 use Rattle.rules.specs.Layout.{Schemas, lists, readTable}
 use Rattle.rules.specs.Sound.{sorted}
-use Rattle.store.proofs.Inside.{inside-header}
+use Rattle.laid.proofs.Inside.{inside-header}
 use Rattle.sound.proofs.Asking.{tables-sorted-is}
 use Rattle.sound.proofs.AreaWalks.{below, wide-of, rising-stop, rising-next, rising-end}
 use Rattle.sound.proofs.schema_test.are_tables_sorted.Statement.{statement}

@@ -1,6 +1,7 @@
 -- `sound::schema_test::is_table_before` meets its contract. Assumes nothing.
 use Rattle.values.proofs.Answers.{not-less}
-use Rattle.sound.proofs.Asking.{named-order, less-is, less-not}
+use Rattle.sound.proofs.Asking.{named-order}
+use Rattle.laid.proofs.Searching.{less-is, less-not}
 use borrow.Author.Needs.{needs}
 use Rattle.sound.proofs.schema_test.is_table_before.Statement.{statement}
 use Rattle.sound.proofs.schema_test.is_table_before.Tie as tie

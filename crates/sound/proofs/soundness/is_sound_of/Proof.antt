@@ -5,10 +5,10 @@ use native.Mathlib.Omega.{arith}
 use lib.ListN.{length}
 use borrow.Author.Tests.{not-true, not-false}
 use Rattle.rules.specs.Profile.{storeLength, placesMost}
-use Rattle.store.specs.Store.{Inside}
-use Rattle.store.specs.Catalog.{Catalog}
+use Rattle.laid.specs.Store.{Inside}
+use Rattle.laid.specs.Catalog.{Catalog}
 use Rattle.sound.specs.Tested.{Schemed, Tabled, Filed}
-use Rattle.store.proofs.Inside.{inside-header}
+use Rattle.laid.proofs.Inside.{inside-header}
 use Rattle.sound.proofs.LaidOut.{inside-of}
 use Rattle.sound.proofs.Verdict.{catalog-of, rowed-is, no-length, long-of, no-layout, no-tables, no-order, no-schemas, no-rows, no-row-order, no-links, no-entries, no-entry-order, no-count, verdict}
 use Rattle.sound.proofs.soundness.is_sound_of.Statement.{statement}

@@ -5,12 +5,12 @@ use borrow.Author.Needs.{needs}
 use borrow.Author.Tests.{not-true, not-false}
 use Rattle.rules.specs.Layout.{Schemas}
 use Rattle.rules.proofs.Laid.{laid-header}
-use Rattle.store.proofs.Columns.{record-least}
+use Rattle.laid.proofs.Columns.{record-least}
 use Rattle.store.proofs.Created.{known-kept, faulty-kept, full-kept, schemas-in, table-grows, record-fits, table-created}
-use Rattle.store.proofs.Inside.{name-within}
+use Rattle.laid.proofs.Inside.{name-within}
 use Rattle.store.proofs.References.{answer-is}
-use Rattle.store.proofs.Runs.{run-searched}
-use Rattle.store.proofs.Stores.{store-catalog, store-laid}
+use Rattle.laid.proofs.Runs.{run-searched}
+use Rattle.laid.proofs.Stores.{store-catalog, store-laid}
 use Rattle.store.proofs.local.create_table.Statement.{statement}
 use Rattle.store.proofs.local.create_table.Tie as tie
 

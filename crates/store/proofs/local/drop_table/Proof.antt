@@ -2,7 +2,7 @@
 use borrow.Author.Needs.{needs}
 use Rattle.store.proofs.Dropped.{unknown-kept, unknown-passed, referenced-kept, entries-in, rows-in, table-shrinks, table-dropped}
 use Rattle.store.proofs.References.{answer-is}
-use Rattle.store.proofs.Stores.{store-catalog}
+use Rattle.laid.proofs.Stores.{store-catalog}
 use Rattle.store.proofs.local.drop_table.Statement.{statement}
 use Rattle.store.proofs.local.drop_table.Tie as tie
 

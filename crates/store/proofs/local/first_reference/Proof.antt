@@ -6,9 +6,9 @@ use borrow.Author.Needs.{needs}
 use lib.ListN.{getD, drop}
 use Rattle.values.specs.Meaning.{textBytes}
 use Rattle.rules.specs.Rows.{firstReference}
-use Rattle.store.proofs.Columns.{columnsOf, count-byte, columns-few, record-least}
+use Rattle.laid.proofs.Columns.{columnsOf, count-byte, columns-few, record-least}
 use Rattle.store.proofs.References.{no-reference, column-without, column-other, column-refers}
-use Rattle.store.proofs.Searching.{same-is, not-same}
+use Rattle.laid.proofs.Searching.{same-is, not-same}
 use Rattle.store.proofs.local.first_reference.Statement.{statement}
 use Rattle.store.proofs.local.first_reference.Tie as tie
 

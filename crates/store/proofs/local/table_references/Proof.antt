@@ -8,9 +8,9 @@ use lib.ListN.{length, drop}
 use Rattle.values.specs.Meaning.{textBytes}
 use Rattle.rules.specs.Layout.{lists, parse}
 use Rattle.rules.specs.Rows.{tableReferenced}
-use Rattle.store.proofs.Inside.{inside-header}
+use Rattle.laid.proofs.Inside.{inside-header}
 use Rattle.store.proofs.References.{answer-is, not-referenced, table-itself, table-without, table-refers}
-use Rattle.store.proofs.Searching.{same-is, not-same, tables-count}
+use Rattle.laid.proofs.Searching.{same-is, not-same, tables-count}
 use Rattle.store.proofs.TableAt.{among-records, record-bytes, record-named}
 use Rattle.store.proofs.local.table_references.Statement.{statement}
 use Rattle.store.proofs.local.table_references.Tie as tie

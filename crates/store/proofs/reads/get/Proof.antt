@@ -10,13 +10,13 @@ use Rattle.values.specs.Cell.{nameWidth}
 use Rattle.values.specs.Meaning.{textBytes, meaning}
 use Rattle.rules.specs.State.{isNamed}
 use Rattle.rules.specs.Layout.{lists, parse}
-use Rattle.store.specs.Catalog.{placeOf}
-use Rattle.store.proofs.Checking.{key-of-found}
-use Rattle.store.proofs.Columns.{record-least}
+use Rattle.laid.specs.Catalog.{placeOf}
+use Rattle.checks.proofs.Checking.{key-of-found}
+use Rattle.laid.proofs.Columns.{record-least}
 use Rattle.store.proofs.Lookups.{key-nowhere}
 use Rattle.store.proofs.References.{answer-is}
-use Rattle.store.proofs.Searching.{found-within, table-bytes-at}
-use Rattle.store.proofs.Stores.{held-inside, held-catalog}
+use Rattle.laid.proofs.Searching.{found-within, table-bytes-at}
+use Rattle.laid.proofs.Stores.{held-inside, held-catalog}
 use Rattle.store.proofs.reads.get.Statement.{statement}
 use Rattle.store.proofs.reads.get.Tie as tie
 

@@ -1,8 +1,8 @@
 -- `store::reads::is_indexed` meets its contract. Assumes nothing.
-use Rattle.store.proofs.Columns.{record-least}
-use Rattle.store.proofs.Fitting.{schema-within, rec-bytes}
+use Rattle.laid.proofs.Columns.{record-least}
+use Rattle.checks.proofs.Fitting.{schema-within, rec-bytes}
 use Rattle.store.proofs.Lookups.{past-columns, among-columns, index-read}
-use Rattle.store.proofs.Stores.{held-inside}
+use Rattle.laid.proofs.Stores.{held-inside}
 use Rattle.store.proofs.reads.is_indexed.Statement.{statement}
 use Rattle.store.proofs.reads.is_indexed.Tie as tie
 

@@ -6,11 +6,11 @@ use borrow.Author.Tests.{not-true, not-false}
 use Rattle.values.specs.Meaning.{textBytes}
 use Rattle.rules.specs.State.{isNamed}
 use Rattle.rules.specs.Layout.{parse}
-use Rattle.store.specs.Catalog.{placeOf}
-use Rattle.store.specs.Keys.{valuesFrom}
+use Rattle.laid.specs.Catalog.{placeOf}
+use Rattle.checks.specs.Keys.{valuesFrom}
 use Rattle.store.proofs.Lookups.{table-known, column-indexed, lookup-unknown, lookup-refused, lookup-counted}
 use Rattle.store.proofs.References.{answer-is}
-use Rattle.store.proofs.Stores.{held-catalog}
+use Rattle.laid.proofs.Stores.{held-catalog}
 use Rattle.store.proofs.reads.lookup_index.Statement.{statement}
 use Rattle.store.proofs.reads.lookup_index.Tie as tie
 

@@ -1,9 +1,9 @@
 -- `store::rows::delete` meets its contract. Assumes nothing.
 use Rattle.values.specs.Meaning.{textBytes}
-use Rattle.store.specs.Keys.{valuesFrom}
+use Rattle.checks.specs.Keys.{valuesFrom}
 use Rattle.store.proofs.KeysRemoved.{delete-missed, table-below, delete-held, delete-goes}
 use Rattle.store.proofs.References.{answer-is}
-use Rattle.store.proofs.Stores.{laid-store, store-catalog}
+use Rattle.laid.proofs.Stores.{laid-store, store-catalog}
 use borrow.Author.Needs.{needs}
 use Rattle.store.proofs.rows.delete.Statement.{statement}
 use Rattle.store.proofs.rows.delete.Tie as tie

@@ -2,7 +2,7 @@
 use mathlib.Core.Path.{sym, _∙_}
 use borrow.Author.Needs.{needs}
 use borrow.Author.Tests.{not-true, not-false}
-use Rattle.store.proofs.Stores.{laid-store}
+use Rattle.laid.proofs.Stores.{laid-store}
 use Rattle.store.proofs.Written.{insert-refused, row-addable, row-inserted}
 use Rattle.store.proofs.rows.insert.Statement.{statement}
 use Rattle.store.proofs.rows.insert.Tie as tie
@@ -23,7 +23,7 @@ returns : tie.Need-returns
 returns c =
     let b = c .before .before .before .before .before .before in
     let k = c .before .before .before .validate-row in
-    insert-refused _ _ _ (b .pre .0) _ _ (b .pre .1) (k .result) (k .ensures) (sym (c .before .before .is-accepted .ensures) ∙ not-true _ (c .before .if1 .taken)) _ (c .refused .ensures)
+    insert-refused _ _ _ (b .pre .0) _ _ (b .pre .1) (k .result) (k .ensures) (sym (c .before .before .is-accepted .ensures) ∙ not-true _ (c .before .if1 .taken)) _ _ (c .refused .ensures)
 
 add-row-requires : tie.Need-add-row-requires
 add-row-requires c κs =
@@ -47,6 +47,7 @@ returns-2 c =
     row-inserted _ _ _ (b .pre .0) _ _ (b .pre .1) (k .result) (k .ensures) (sym (c .before .before .before .before .before .before .is-accepted .ensures) ∙ not-false _ (c .before .before .before .before .before .if1 .left))
     _
     (c .before .before .before .add-row .ensures)
+    _
     _
     (c .accepted .ensures)
 

@@ -4,10 +4,10 @@ use native.Mathlib.Omega.{arith}
 use denote.Ref.{now}
 use borrow.Author.Needs.{needs}
 use Rattle.values.specs.Meaning.{meaning}
-use Rattle.store.proofs.Columns.{record-least}
-use Rattle.store.proofs.Fitting.{schema-within, rec-bytes}
-use Rattle.store.proofs.RowFacts.{start-name}
-use Rattle.store.proofs.Stores.{laid-store, held-inside}
+use Rattle.laid.proofs.Columns.{record-least}
+use Rattle.checks.proofs.Fitting.{schema-within, rec-bytes}
+use Rattle.laid.proofs.RowFacts.{start-name}
+use Rattle.laid.proofs.Stores.{laid-store, held-inside}
 use Rattle.store.proofs.Written.{referenced-kept, gone-store, gone-full, again-accepted, again-refused}
 use Rattle.store.proofs.rows.other_key.Statement.{statement}
 use Rattle.store.proofs.rows.other_key.Tie as tie
@@ -53,6 +53,7 @@ returns c =
     _
     (b .pre .3)
     (r .ensures .0)
+    _
     _
     (c .carrying .ensures)
 
@@ -113,6 +114,7 @@ returns-2 c =
     (m .ensures .0)
     _
     _
+    _
     (i .ensures)
     (sym (c .before .is-accepted .ensures) ∙ c .if2 .taken)
 
@@ -139,6 +141,7 @@ returns-3 c =
     (r .ensures .0)
     _
     (m .ensures .0)
+    _
     _
     _
     (i .ensures)

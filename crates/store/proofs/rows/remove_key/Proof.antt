@@ -3,11 +3,11 @@ use mathlib.Core.Path.{sym, ap, _∙_}
 use native.Mathlib.Omega.{arith}
 use Rattle.values.specs.Cell.{readName}
 use Rattle.values.specs.Meaning.{textBytes, meaning}
-use Rattle.store.proofs.Fitting.{key-of-table}
+use Rattle.checks.proofs.Fitting.{key-of-table}
 use Rattle.store.proofs.KeysRemoved.{row-its, key-gone, key-absent}
 use Rattle.store.proofs.References.{answer-is}
-use Rattle.store.proofs.RowFacts.{start-table, start-least, start-name}
-use Rattle.store.proofs.Stores.{held-inside}
+use Rattle.laid.proofs.RowFacts.{start-table, start-least, start-name}
+use Rattle.laid.proofs.Stores.{held-inside}
 use borrow.Author.Needs.{needs}
 use Rattle.store.proofs.rows.remove_key.Statement.{statement}
 use Rattle.store.proofs.rows.remove_key.Tie as tie

@@ -4,7 +4,7 @@ use mathlib.Core.Path.{subst}
 use native.Mathlib.Omega.{arith}
 use Rattle.values.specs.Meaning.{held}
 use Rattle.values.specs.Read.{ProperRead}
-use Rattle.store.proofs.KeysRead.{values-end, values-got, values-broken}
+use Rattle.checks.proofs.KeysRead.{values-end, values-got, values-broken}
 use Rattle.store.proofs.KeysRemoved.{KeysTurn, keys-start, keys-next, keys-end}
 use borrow.Author.Needs.{needs}
 use Rattle.store.proofs.rows.remove_keys.Statement.{statement}

@@ -8,11 +8,11 @@ use Rattle.values.specs.declared.value.Cell.{Cell}
 use Rattle.values.specs.declared.value.Value.the-variants.{Null}
 use Rattle.values.specs.Cell.{readName}
 use Rattle.values.specs.Meaning.{textBytes}
-use Rattle.store.proofs.Columns.{record-least}
-use Rattle.store.proofs.Fitting.{schema-within, rec-bytes, key-within-columns, key-of-table, few-columns-8, cell-proper, key-is}
+use Rattle.laid.proofs.Columns.{record-least}
+use Rattle.checks.proofs.Fitting.{schema-within, rec-bytes, key-within-columns, key-of-table, few-columns-8, cell-proper, key-is}
 use Rattle.store.proofs.References.{answer-is}
-use Rattle.store.proofs.RowFacts.{start-name}
-use Rattle.store.proofs.Stores.{laid-store, held-inside}
+use Rattle.laid.proofs.RowFacts.{start-name}
+use Rattle.laid.proofs.Stores.{laid-store, held-inside}
 use Rattle.store.proofs.Written.{same-refused, same-nothing, row-replaceable, row-replaced}
 use Rattle.store.proofs.rows.same_key.Statement.{statement}
 use Rattle.store.proofs.rows.same_key.Tie as tie
@@ -36,7 +36,7 @@ returns : tie.Need-returns
 returns c =
     let b = c .before .before .before .before .before .before in
     let k = c .before .before .before .validate-row in
-    same-refused _ _ _ (b .pre .0) _ _ (b .pre .1) (k .result) (k .ensures) (sym (c .before .before .is-accepted .ensures) ∙ not-true _ (c .before .if1 .taken)) _ (c .refused .ensures)
+    same-refused _ _ _ (b .pre .0) _ _ (b .pre .1) (k .result) (k .ensures) (sym (c .before .before .is-accepted .ensures) ∙ not-true _ (c .before .if1 .taken)) _ _ (c .refused .ensures)
 
 table-record-requires : tie.Need-table-record-requires
 table-record-requires c κs =
@@ -130,6 +130,7 @@ returns-2 c =
     (key-is (a .p) (a .places) (a .s .now) (a .t) g (b .pre .1 .known) (now (r .result)) (r .ensures) (a .row) (b .pre .1) (j .result) (j .ensures) blank)
     (answer-is (c .before .enum-told .given .1) (c .before .before .before .find-row .ensures))
     _
+    _
     (c .accepted .ensures)
 
 replace-row-requires : tie.Need-replace-row-requires
@@ -176,6 +177,7 @@ returns-3 c =
     (answer-is (c .before .before .before .before .before .before .i .given .1) (c .before .before .before .before .before .before .before .before .find-row .ensures))
     _
     (c .before .before .before .replace-row .ensures)
+    _
     _
     (c .accepted2 .ensures)
 

@@ -5,9 +5,9 @@ use denote.Ref.{now}
 use borrow.Author.Needs.{needs}
 use Rattle.values.specs.declared.value.Cell.{Cell}
 use Rattle.values.specs.declared.value.Value.the-variants.{Null}
-use Rattle.store.proofs.Columns.{record-least}
-use Rattle.store.proofs.Fitting.{schema-within, rec-bytes, key-within-columns, few-columns-8, cell-proper, key-is}
-use Rattle.store.proofs.Stores.{laid-store, held-inside}
+use Rattle.laid.proofs.Columns.{record-least}
+use Rattle.checks.proofs.Fitting.{schema-within, rec-bytes, key-within-columns, few-columns-8, cell-proper, key-is}
+use Rattle.laid.proofs.Stores.{laid-store, held-inside}
 use Rattle.store.proofs.Written.{pair-with-same, pair-with-other}
 use Rattle.store.proofs.rows.update.Statement.{statement}
 use Rattle.store.proofs.rows.update.Tie as tie
@@ -81,6 +81,7 @@ returns c =
     (key-is (a .p) (a .places) (a .s .now) (a .t) g (b .pre .1 .known) (now (r .result)) (r .ensures) (a .row) (b .pre .1) (j .result) (j .ensures) blank)
     _
     _
+    _
     (sym (c .before .before .before .before .before .is-same .ensures) ∙ c .before .before .before .before .if1 .taken)
     (c .before .before .same-key .ensures)
 
@@ -100,6 +101,7 @@ returns-2 c =
     let j = c .before .before .before .before .before .before .before .before .key-column in
     pair-with-other _ _ _ (b .pre .0) _ _ (b .pre .1) _ _
     (key-is (a .p) (a .places) (a .s .now) (a .t) g (b .pre .1 .known) (now (r .result)) (r .ensures) (a .row) (b .pre .1) (j .result) (j .ensures) blank)
+    _
     _
     _
     (sym (c .before .before .before .before .before .is-same .ensures) ∙ c .before .before .before .before .if1 .left)

@@ -3,8 +3,8 @@ use mathlib.Core.Path.{sym, _∙_}
 use native.Mathlib.Omega.{arith}
 use borrow.Author.Tests.{not-true, not-false}
 use Rattle.rules.specs.Layout.{parse}
-use Rattle.store.proofs.Columns.{record-least}
-use Rattle.store.proofs.Validating.{table-unnamed, columns-none, key-beyond, columns-refuse, repeats-decide}
+use Rattle.laid.proofs.Columns.{record-least}
+use Rattle.checks.proofs.Validating.{table-unnamed, columns-none, key-beyond, columns-refuse, repeats-decide}
 use borrow.Author.Needs.{needs}
 use Rattle.store.proofs.schema.validate.Statement.{statement}
 use Rattle.store.proofs.schema.validate.Tie as tie

@@ -1,0 +1,4 @@
+pub mod Writing
+pub mod RowRemoved
+pub mod RowAdded
+pub mod RowReplaced

@@ -1,0 +1,263 @@
+-- A row taken out of a store: its entries go one by one, then its record, and what stands is the image of the state without it. Assumes nothing.
+use mathlib.Core.Path.{_≡_, refl, sym, ap, _∙_, subst}
+use mathlib.Core.Bool.{Bool, true, false}
+use mathlib.Core.Option.{some, Option·none-ne-some, Option·some-injective}
+use Prim.Native.Nat.{ℕ, zero, suc, _+_, _*_, _≤_, _<_, Ordering, Ordering·lt as lt, Ordering·eq as eq}
+use native.Mathlib.Numerals.{add-one, one-add}
+use native.Mathlib.Omega.{arith}
+use mathlib.Core.List.{List, [], _∷_}
+use lib.ListN.{length, getD, drop, drop-of-length-le, length-map}
+use Rattle.values.specs.Basic.{isLt, keepIf, nth}
+use Rattle.values.specs.Cell.{nameWidth, readValue}
+use Rattle.values.specs.declared.value.Text.{Text}
+use Rattle.values.specs.declared.value.Value as D
+use Rattle.values.specs.Meaning.{textBytes, Packed, meaning, Proper}
+use Rattle.values.specs.Counted.{Shrinks, shrunk}
+use Rattle.values.specs.Sorted.{Sorted, countOf, removeRun, removeAt}
+use Rattle.values.proofs.Changes.{remove-one}
+use Rattle.values.proofs.Orders.{Ord, self, gt≢lt}
+use Rattle.values.proofs.Placing.{rank, holds-in, keep-others}
+use Rattle.values.proofs.Runs.{none-before}
+use Rattle.values.proofs.Sorting.{all-below}
+use Rattle.rules.specs.declared.profile.Profile.{Profile}
+use Rattle.rules.specs.Profile.{placesMost, rowWidth, rowsAt}
+use Rattle.rules.specs.State as S
+use Rattle.rules.specs.State.{Table, State, cmpRow, cellAt}
+use Rattle.rules.specs.Index.{Entry, entryAt, entriesFrom, columnsOf, entriesOf, removeAll, withoutEntry, indexOf}
+use Rattle.rules.specs.Step.{removed, apply, withoutRow}
+use Rattle.rules.specs.Layout.{lists, Laid, Rows, rowsCount, rowRecord, layout, recordsOf, image, parse}
+use Rattle.rules.proofs.Contents.{remove-rows}
+use Rattle.rules.proofs.Index.{ordRow}
+use Rattle.rules.proofs.IndexChanges.{Removing, removing-next, removing-start, index-removed}
+use Rattle.rules.proofs.Laid.{laid-shrinks, laid-shrunk}
+use Rattle.rules.proofs.Lists.{nth-in, nth-below}
+use Rattle.rules.proofs.Room.{indexed}
+use Rattle.laid.specs.declared.catalog.Column.{Column}
+use Rattle.laid.specs.Column.{columnOf, ColumnRead}
+use Rattle.laid.specs.Catalog.{TableBytes}
+use Rattle.laid.specs.Row.{tableIn, rowIn, RowOf}
+use Rattle.laid.specs.Store.{Coded, Inside, LaidStore}
+use Rattle.laid.specs.Entered.{entriesIn, Entered, entryOf, ProperEntry, entryIn, entryRemoved}
+use Rattle.laid.proofs.Keyed.{row-at, row-in}
+use Rattle.laid.proofs.Stores.{held-state, held-inside}
+use Rattle.laid.proofs.RowFacts.{RowFacts, row-facts, column-few, column-byte, entry-is, own-columns, own-full, own-key-below, held-midway, held-entries, table-there, table-held}
+use Rattle.laid.proofs.Finding.{drop-nth}
+use Rattle.laid.proofs.Midway.{Midway, mid-removed, removed-entries, mid-inside, mid-entered, mid-table, mid-table-bytes, mid-column, mid-row, mid-row-long, mid-cell}
+
+-- in a sorted list, as many are before an element as its place says
+pub rank-nth : {A : Type 0} {cmp : A → A → Ordering} (O : Ord cmp) (xs : List A) (i : ℕ) (a : A) → Sorted cmp xs → nth xs i ≡ some a → rank cmp a xs ≡ i
+unfolding countOf
+rank-nth O [] i a s h = absurd (Option·none-ne-some a h)
+rank-nth {cmp = cmp} O (x ∷ xs) zero a s h =
+    let e : cmp x a ≡ eq = ap (cmp x) (sym (Option·some-injective x a h)) ∙ self O x in
+    rw (e, none-before {cmp = cmp} O (λ y. y) (λ y z l e. gt≢lt (sym e ∙ l)) a x xs s (ap isLt e))
+rank-nth {cmp = cmp} O (x ∷ xs) (suc i) a s h =
+    let e : cmp x a ≡ lt = all-below O x a xs (s .0) (s .1) (nth-in xs i a h) in
+    rw (e, one-add) (ap suc (rank-nth O xs i a (s .1) h))
+
+-- ---- the entries of the columns that are left
+
+pub entries-left : (r : S.Row) (cs : List S.Column) (j : ℕ) (c : S.Column) → nth cs j ≡ some c → entriesFrom r j (drop j cs) ≡ keepIf (c .index) (entryAt r j) (entriesFrom r (j + 1) (drop (j + 1) cs))
+unfolding entriesFrom
+entries-left r cs j c h = rw (drop-nth cs j c h, add-one j)
+
+pub entries-none : (r : S.Row) (cs : List S.Column) (j : ℕ) → length cs ≤ j → entriesFrom r j (drop j cs) ≡ []
+unfolding entriesFrom
+entries-none r cs j h = rw (drop-of-length-le cs {i = j} h)
+
+-- ---- on the way
+
+pub record Removes (p : Profile) (R : ℕ) (st : State) (r : S.Row) (cs : List S.Column) (j : ℕ) (s : List ℕ) : Type 0 where
+  pub mid : Midway p R st s
+  pub removing : Removing (entriesFrom r j (drop j cs)) (entriesIn p R s)
+  pub whole : removeAll (entriesFrom r j (drop j cs)) (entriesIn p R s) ≡ indexOf (st .tables) (withoutRow r (st .rows))
+
+module _ (p : Profile) (k : Coded p) (R : ℕ) (most : R ≤ placesMost) (st : State) (r : S.Row) (cs : List S.Column) (j : ℕ) (s : List ℕ) (b : Removes p R st r cs j s) (c : S.Column) (at : nth cs j ≡ some c) where
+  -- a column without an index
+  pub removes-past : c .index ≡ false → Removes p R st r cs (j + 1) s
+  removes-past h =
+      let e : entriesFrom r j (drop j cs) ≡ entriesFrom r (j + 1) (drop (j + 1) cs) =
+      entries-left r cs j c at ∙ ap (λ (x : Bool). keepIf x (entryAt r j) (entriesFrom r (j + 1) (drop (j + 1) cs))) h
+      in
+      record {
+        mid = b .mid;
+        removing = subst (λ (es : List Entry). Removing es (entriesIn p R s)) e (b .removing);
+        whole = ap (λ (es : List Entry). removeAll es (entriesIn p R s)) (sym e) ∙ b .whole;
+      }
+
+  module _ (h : c .index ≡ true) where
+    first : entriesFrom r j (drop j cs) ≡ entryAt r j ∷ entriesFrom r (j + 1) (drop (j + 1) cs)
+    first = entries-left r cs j c at ∙ ap (λ (x : Bool). keepIf x (entryAt r j) (entriesFrom r (j + 1) (drop (j + 1) cs))) h
+
+    next : (entryIn p R (entryAt r j) s ≡ true) × Removing (entriesFrom r (j + 1) (drop (j + 1) cs)) (withoutEntry (entryAt r j) (entriesIn p R s))
+    next = removing-next (entryAt r j) (entriesFrom r (j + 1) (drop (j + 1) cs)) (entriesIn p R s) (subst (λ (es : List Entry). Removing es (entriesIn p R s)) first (b .removing))
+
+    pub removes-there : entryIn p R (entryAt r j) s ≡ true
+    removes-there = next .0
+
+    pub removes-next : (s₁ : List ℕ) → Laid p R s₁ (entryRemoved p R (entryAt r j) s) → Removes p R st r cs (j + 1) s₁
+    removes-next s₁ l =
+        let e : entriesIn p R s₁ ≡ withoutEntry (entryAt r j) (entriesIn p R s) = removed-entries p k R most st s (b .mid) (entryAt r j) removes-there s₁ l in
+        record {
+          mid = mid-removed p k R most st s (b .mid) (entryAt r j) removes-there s₁ l;
+          removing = subst (Removing (entriesFrom r (j + 1) (drop (j + 1) cs))) (sym e) (next .1);
+          whole = ap (removeAll (entriesFrom r (j + 1) (drop (j + 1) cs))) e ∙ sym (ap (λ (es : List Entry). removeAll es (entriesIn p R s)) first) ∙ b .whole;
+        }
+
+-- ---- from the first column to the last, and the record
+
+module _ (p : Profile) (R : ℕ) (st : State) (o : Sorted cmpRow (st .rows)) (r : S.Row) (i : ℕ) (at : nth (st .rows) i ≡ some r) (cs : List S.Column) (ec : columnsOf (st .tables) (r .table) ≡ cs) where
+  pub removes-start : (s : List ℕ) → Midway p R st s → entriesIn p R s ≡ indexed st → Removes p R st r cs 0 s
+  removes-start s m e =
+      record {
+        mid = m;
+        removing = subst (λ (x : List S.Column). Removing (entriesFrom r 0 x) (entriesIn p R s)) ec (subst (Removing (entriesOf (st .tables) r)) (sym e) (removing-start (st .tables) r (st .rows) o (nth-in (st .rows) i r at)));
+        whole = ap (λ (x : List S.Column). removeAll (entriesFrom r 0 x) (entriesIn p R s)) (sym ec) ∙ ap (removeAll (entriesOf (st .tables) r)) e ∙ sym (index-removed (st .tables) r (st .rows) o (nth-in (st .rows) i r at));
+      }
+
+  rows-without : removeRun i 1 (st .rows) ≡ withoutRow r (st .rows)
+  rows-without =
+      sym (remove-one i (st .rows))
+      ∙ ap (λ (n : ℕ). removeAt n (st .rows)) (sym (rank-nth ordRow (st .rows) i r o at))
+      ∙ sym (keep-others ordRow r (st .rows) o (holds-in ordRow r r (st .rows) (nth-in (st .rows) i r at) (self ordRow r)))
+
+  module _ (j : ℕ) (s : List ℕ) (b : Removes p R st r cs j s) (h : length cs ≤ j) (from w : ℕ) (ef : from ≡ rowsAt p) (ew : w ≡ rowWidth p) where
+    index-is : entriesIn p R s ≡ indexOf (st .tables) (withoutRow r (st .rows))
+    index-is = sym (ap (λ (es : List Entry). removeAll es (entriesIn p R s)) (entries-none r cs j h)) ∙ b .whole
+
+    one-more : i + 1 ≤ length ((recordsOf p st (entriesIn p R s)) .rows)
+    unfolding recordsOf
+    one-more = omega (arith, length-map (st .rows) (rowRecord p), nth-below (st .rows) i r at)
+
+    pub row-shrinks : Shrinks s rowsCount 2 from R w i 1
+    row-shrinks = laid-shrinks p R s (recordsOf p st (entriesIn p R s)) (b .mid .laid) Rows from w R ef ew refl i 1 one-more
+
+    pub row-gone : (s₁ : List ℕ) → s₁ ≡ shrunk rowsCount 2 from R w i 1 s → s₁ ≡ image p R (apply (removed r) st)
+    unfolding image apply
+    row-gone s₁ e =
+        e ∙ laid-shrunk p R s (recordsOf p st (entriesIn p R s)) (b .mid .laid) Rows from w R ef ew refl i 1 one-more .whole
+        ∙ ap (layout p R) (remove-rows p st (entriesIn p R s) i 1)
+        ∙ ap (λ (rs : List S.Row). layout p R (recordsOf p (record { tables = st .tables; rows = rs }) (entriesIn p R s))) rows-without
+        ∙ ap (λ (es : List Entry). layout p R (recordsOf p (record { tables = st .tables; rows = withoutRow r (st .rows) }) es)) index-is
+
+-- ---- a turn of the loop, with what the code has at hand
+
+pub record RemoveTurn (p : Profile) (R : ℕ) (s₀ : List ℕ) (t i : ℕ) (name : Text) (count : ℕ) (key : D.Value) (j : ℕ) (s : List ℕ) : Type 0 where
+  pub few : j ≤ count
+  pub facts : RowFacts p R (tableIn p R s₀ t) (rowIn p R s₀ i) name count key
+  pub table : nth ((parse p R s₀) .tables) t ≡ some (tableIn p R s₀ t)
+  pub row : nth ((parse p R s₀) .rows) i ≡ some (rowIn p R s₀ i)
+  pub removes : Removes p R (parse p R s₀) (rowIn p R s₀ i) ((tableIn p R s₀ t) .columns) j s
+
+module _ (p : Profile) (R : ℕ) (s₀ : List ℕ) (t i : ℕ) (b : LaidStore p R s₀) (o : RowOf p R s₀ t i) where
+  -- the key column is one of the row's
+  pub remove-key : (column : ℕ) → column ≡ (tableIn p R s₀ t) .key → column < length ((rowIn p R s₀ i) .cells)
+  remove-key column e =
+      let v = held-state p R s₀ b in
+      let m = table-held p R s₀ b t (o .known) in
+      let n = row-in p R s₀ b i (o .stored) in
+      omega (
+        arith,
+        e,
+        own-full p (b .coded .known) R (parse p R s₀) v (tableIn p R s₀ t) m (rowIn p R s₀ i) n (o .of),
+        own-key-below p (b .coded .known) R (parse p R s₀) v (tableIn p R s₀ t) m (rowIn p R s₀ i) n (o .of),
+      )
+
+module _ (p : Profile) (R : ℕ) (s₀ : List ℕ) (t i : ℕ) (name : Text) (count : ℕ) (key : D.Value) where
+  module _ (b : LaidStore p R s₀) (o : RowOf p R s₀ t i) where
+    columns-are : columnsOf ((parse p R s₀) .tables) ((rowIn p R s₀ i) .table) ≡ (tableIn p R s₀ t) .columns
+    columns-are =
+        own-columns p (b .coded .known) R (parse p R s₀) (held-state p R s₀ b) (tableIn p R s₀ t) (table-held p R s₀ b t (o .known)) (rowIn p R s₀ i) (row-in p R s₀ b i (o .stored)) (o .of)
+
+    pub remove-start : textBytes name ≡ (tableIn p R s₀ t) .name → Packed name → count ≡ length ((tableIn p R s₀ t) .columns) → meaning key ≡ cellAt ((rowIn p R s₀ i) .cells) ((tableIn p R s₀ t) .key) → Proper key
+        → RemoveTurn p R s₀ t i name count key 0 s₀
+    remove-start en hn ec ek hk =
+        record {
+          few = omega arith;
+          facts = row-facts p (b .coded) R (b .places) (parse p R s₀) (held-state p R s₀ b) (tableIn p R s₀ t) (table-held p R s₀ b t (o .known)) (rowIn p R s₀ i) (row-in p R s₀ b i (o .stored)) (o .of) name en hn count ec key ek hk;
+          table = table-there p R s₀ t (o .known);
+          row = row-at p R s₀ b i (o .stored);
+          removes = removes-start p R (parse p R s₀) (held-state p R s₀ b .rows-sorted) (rowIn p R s₀ i) i (row-at p R s₀ b i (o .stored)) ((tableIn p R s₀ t) .columns) columns-are s₀ (held-midway p R s₀ b) (held-entries p R s₀ b);
+        }
+
+    -- the record goes when no column is left
+    module _ (j : ℕ) (s : List ℕ) (x : RemoveTurn p R s₀ t i name count key j s) (h : count ≤ j) (from w : ℕ) (ef : from ≡ rowsAt p) (ew : w ≡ rowWidth p) where
+      pub remove-shrinks : Shrinks s rowsCount 2 from R w i 1
+      remove-shrinks =
+          row-shrinks p R (parse p R s₀) (held-state p R s₀ b .rows-sorted) (rowIn p R s₀ i) i (x .row) ((tableIn p R s₀ t) .columns) columns-are j s (x .removes) (omega (arith, x .facts .counted)) from w ef ew
+
+      pub remove-length : length s ≡ length s₀
+      remove-length = omega (arith, mid-inside p (b .coded) R (b .places) (parse p R s₀) s (x .removes .mid) .long, held-inside p R s₀ b .long)
+
+      pub remove-done : (s₁ : List ℕ) → s₁ ≡ shrunk rowsCount 2 from R w i 1 s → s₁ ≡ image p R (apply (removed (rowIn p R s₀ i)) (parse p R s₀))
+      remove-done =
+          row-gone p R (parse p R s₀) (held-state p R s₀ b .rows-sorted) (rowIn p R s₀ i) i (x .row) ((tableIn p R s₀ t) .columns) columns-are j s (x .removes) (omega (arith, x .facts .counted)) from w ef ew
+
+  module _ (j : ℕ) (s : List ℕ) (x : RemoveTurn p R s₀ t i name count key j s) (h : j < count) where
+    abbrev T : Table
+    T = tableIn p R s₀ t
+
+    abbrev r : S.Row
+    r = rowIn p R s₀ i
+
+    turn-mid : Midway p R (parse p R s₀) s
+    turn-mid = x .removes .mid
+
+    pub turn-inside : Inside p R s
+    turn-inside = mid-inside p (x .facts .coded) R (x .facts .places) (parse p R s₀) s turn-mid
+
+    pub turn-table : t < length ((lists p R s) .schemas)
+    turn-table = mid-table p (x .facts .coded) R (x .facts .places) (parse p R s₀) s turn-mid t T (x .table)
+
+    pub turn-row : i < length ((lists p R s) .rows)
+    turn-row = mid-row p (x .facts .coded) R (x .facts .places) (parse p R s₀) s turn-mid i r (x .row)
+
+    pub turn-few : j < p .columns
+    turn-few = column-few p R T r name count key (x .facts) j h
+
+    pub turn-byte : j < 256
+    turn-byte = column-byte p R T r name count key (x .facts) j h
+
+    pub turn-bytes : (rec : List ℕ) → rec ≡ getD ((lists p R s) .schemas) t [] → TableBytes p rec
+    turn-bytes rec er = mid-table-bytes p (x .facts .coded) R (x .facts .places) (parse p R s₀) s turn-mid t T (x .table) rec er (x .facts .good-table)
+
+    pub turn-long : (rec : List ℕ) → rec ≡ getD ((lists p R s) .rows) i [] → length rec ≡ rowWidth p
+    turn-long rec er = mid-row-long p (x .facts .coded) R (x .facts .places) (parse p R s₀) s turn-mid i r (x .row) rec er (x .facts .good-row)
+
+    module _ (rec : List ℕ) (er : rec ≡ getD ((lists p R s) .schemas) t []) (c : Column) (rc : ColumnRead p rec j c) where
+      column-is : nth (T .columns) j ≡ some (columnOf c)
+      column-is = mid-column p (x .facts .coded) R (x .facts .places) (parse p R s₀) s turn-mid t T (x .table) rec er (x .facts .good-table) j c rc (omega (arith, x .facts .counted))
+
+      pub turn-past : c .index ≡ false → RemoveTurn p R s₀ t i name count key (j + 1) s
+      turn-past e =
+          record {
+            few = omega arith;
+            facts = x .facts;
+            table = x .table;
+            row = x .row;
+            removes = removes-past p (x .facts .coded) R (x .facts .places) (parse p R s₀) r (T .columns) j s (x .removes) (columnOf c) column-is e;
+          }
+
+      module _ (e : c .index ≡ true) (rw₁ : List ℕ) (ew : rw₁ ≡ getD ((lists p R s) .rows) i []) (v : D.Value) (ev : meaning v ≡ readValue (drop (nameWidth + j * p .cell) rw₁)) where
+        gone-is : entryOf name j v key ≡ entryAt r j
+        gone-is =
+            entry-is p R T r name count key (x .facts) j h v
+            (ev ∙ mid-cell p (x .facts .coded) R (x .facts .places) (parse p R s₀) s turn-mid i r (x .row) rw₁ ew (x .facts .good-row) j (omega (arith, x .facts .full)))
+
+        pub turn-requires : Proper v → Entered p R s × ProperEntry name v key × (entryIn p R (entryOf name j v key) s ≡ true)
+        turn-requires hv = (
+          mid-entered p (x .facts .coded) R (x .facts .places) (parse p R s₀) s turn-mid,
+          record { name = x .facts .packed; value = hv; key = x .facts .proper },
+          subst (λ (y : Entry). entryIn p R y s ≡ true) (sym gone-is) (removes-there p (x .facts .coded) R (x .facts .places) (parse p R s₀) r (T .columns) j s (x .removes) (columnOf c) column-is e),
+        )
+
+        pub turn-next : (s₁ : List ℕ) → Laid p R s₁ (entryRemoved p R (entryOf name j v key) s) → RemoveTurn p R s₀ t i name count key (j + 1) s₁
+        turn-next s₁ l =
+            record {
+              few = omega arith;
+              facts = x .facts;
+              table = x .table;
+              row = x .row;
+              removes = removes-next p (x .facts .coded) R (x .facts .places) (parse p R s₀) r (T .columns) j s (x .removes) (columnOf c) column-is e s₁
+                  (subst (λ (y : Entry). Laid p R s₁ (entryRemoved p R y s)) gone-is l);
+            }

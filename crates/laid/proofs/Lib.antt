@@ -1,0 +1,11 @@
+pub mod Inside
+pub mod Stores
+pub mod Finding
+pub mod Columns
+pub mod Searching
+pub mod Runs
+pub mod Ranking
+pub mod Keyed
+pub mod Entering
+pub mod Midway
+pub mod RowFacts

@@ -1,0 +1,230 @@
+-- The rows of an insert, put in one after the other: a store again after each, and what remains of them comes to what all come to.
+-- Assumes nothing.
+use Prim.Native.Nat.{ℕ, suc, _+_, _-_, _≤_, _<_}
+use mathlib.Core.Path.{_≡_, refl, sym, ap, _∙_, subst}
+use mathlib.Core.Bool.{true, false}
+use mathlib.Core.List.{List, [], _∷_, map}
+use mathlib.Core.Option.{Option, none, some}
+use native.Mathlib.Numerals.{add-one}
+use native.Mathlib.Omega.{arith}
+use lib.Dec.{eqb}
+use lib.ListN.{length, getD}
+use Rattle.values.specs.Basic.{nth, orDefault}
+use Rattle.values.specs.Value.{Value}
+use Rattle.rules.specs.declared.profile.Profile.{Profile}
+use Rattle.rules.specs.declared.answer.Answer.{Answer}
+use Rattle.rules.specs.Refusal.{numberOf}
+use Rattle.rules.specs.State.{Table, State, tableNamed}
+use Rattle.rules.specs.Layout.{lists, parse, readTable, unknown}
+use Rattle.rules.specs.Request.{said, ok}
+use Rattle.rules.specs.Rows.{given, fill, fillFault, fillsFault, fullRow}
+use Rattle.rules.specs.Sound.{goodTable}
+use Rattle.rules.specs.Step.{apply, applyAll, Outcome, numbered, inTurn, insertRow}
+use Rattle.rules.proofs.Asked.{Ready, Good}
+use Rattle.rules.proofs.Catalog.{stored-named}
+use Rattle.rules.proofs.Keeps.{insert-keeps}
+use Rattle.rules.proofs.Kept.{valid-keeps}
+use Rattle.rules.proofs.Tests.{orElse-none, at-none, by-option}
+use Rattle.rules.proofs.Valid.{Valid}
+use Rattle.laid.specs.Catalog.{TableBytes}
+use Rattle.checks.specs.Keys.{valuesFrom}
+use Rattle.laid.specs.Row.{cellsOf, ProperRow, tableIn, FullRow}
+use Rattle.laid.specs.Store.{Store, Stored}
+use Rattle.laid.specs.declared.row.Row.{Row}
+use Rattle.checks.proofs.Fitting.{rec-bytes, table-is}
+use Rattle.laid.proofs.RowFacts.{table-held}
+use Rattle.laid.proofs.Stores.{store-valid, store-inside, laid-store}
+use Rattle.store.proofs.Written.{reads-back, store-again}
+use Rattle.operations.specs.Got.{isGot}
+use Rattle.operations.specs.Mapped.{mapOf, filledOf, rowsAt}
+use Rattle.records.specs.Reading.{times}
+use Rattle.records.specs.Record.{valuesAt}
+use Rattle.records.specs.Walked.{walkedAs}
+use Rattle.operations.specs.declared.executor.Map.{Map}
+use Rattle.records.specs.declared.record.Walked.the-variants.{Ends}
+use Rattle.records.specs.declared.record.Walked.{Walked}
+use Rattle.operations.proofs.FullRows.{values-normal, row-canonical, row-length, full-count, full-cells, full-normal}
+use Rattle.operations.proofs.InTurn.{Remains, remains-start, stored-end, stored-stops, stored-next}
+use Rattle.operations.proofs.Mapping.{RowFirst, row-first, rows-none}
+use Rattle.operations.proofs.ValuesFrom.{values-there}
+use Rattle.records.proofs.Walking.{ends}
+
+-- ---- a store after a row's turn
+
+-- the schemas stay
+insert-tables : (p : Profile) (R : ℕ) (t : Table) (st : State) (v : List Value) → (applyAll ((insertRow p R t st v) .changes) st) .tables ≡ st .tables
+unfolding insertRow applyAll apply
+insert-tables p R t st v = by-option (λ (o : Outcome). (applyAll (o .changes) st) .tables ≡ st .tables) _ _ _ (λ e. refl) (λ k e. refl)
+
+module _ (p : Profile) (R : ℕ) (s : List ℕ) (b : Store p R s) (t : ℕ) (known : t < length ((parse p R s) .tables)) where
+  abbrev st : State
+  st = parse p R s
+
+  abbrev T : Table
+  T = tableIn p R s t
+
+  pub table-good : goodTable p T ≡ true
+  table-good = store-valid p R s b .good-tables T (table-held p R s (laid-store p R s b) t known)
+
+  own-named : tableNamed (st .tables) (T .name) ≡ some T
+  own-named = stored-named (st .tables) (store-valid p R s b .tables-sorted) T (table-held p R s (laid-store p R s b) t known)
+
+  module _ (row : Row) (f : FullRow p R s t row) where
+    ready : Ready T (cellsOf row)
+    ready = (row-length row (f .proper) ∙ f .full, row-canonical row (f .proper) (f .normal))
+
+    abbrev next : State
+    next = applyAll ((insertRow p R T st (cellsOf row)) .changes) st
+
+    next-valid : Valid p R next
+    next-valid = insert-keeps p R (λ n. Unit {0}) Ready (Good p) (Valid p R) (valid-keeps p R) T tt (cellsOf row) ready st (store-valid p R s b, own-named) .0
+
+    module _ (i : ℕ) (s₁ : List ℕ) (a : Answer) (h : Stored p R (numbered i (insertRow p R T st (cellsOf row))) s s₁ a) where
+      pub row-store : Store p R s₁
+      row-store = store-again p R s b next next-valid s₁ (h .bytes)
+
+      pub row-reads : parse p R s₁ ≡ next
+      row-reads = reads-back p R s b next next-valid s₁ (h .bytes)
+
+      row-tables : (parse p R s₁) .tables ≡ st .tables
+      row-tables = ap (λ (x : State). x .tables) row-reads ∙ insert-tables p R T st (cellsOf row)
+
+      pub row-table : tableIn p R s₁ t ≡ T
+      unfolding tableIn
+      row-table = ap (λ (ts : List Table). orDefault (nth ts t) (unknown [])) row-tables
+
+      pub row-known : t < length ((parse p R s₁) .tables)
+      row-known = subst (λ (ts : List Table). t < length ts) (sym row-tables) known
+
+      pub row-long : length s₁ ≡ length s
+      row-long = store-inside p R s₁ row-store .long ∙ sym (store-inside p R s b .long)
+
+-- ---- the loop: `left` rows are to come, from q on, and i are done
+
+module _ (p : Profile) (R : ℕ) (s₀ : List ℕ) (t : ℕ) (rec : List ℕ) (m : Map) (at n : ℕ) where
+  abbrev T₀ : Table
+  T₀ = tableIn p R s₀ t
+
+  abbrev M : Option (List ℕ)
+  M = mapOf rec m
+
+  abbrev full : List Value → List Value
+  full vs = fullRow T₀ M vs
+
+  abbrev whole : List (List Value)
+  whole = map full (rowsAt rec n at)
+
+  pub record Inserting (s : List ℕ) (left q i : ℕ) : Type 0 where
+    pub store : Store p R s
+    pub known : t < length ((parse p R s) .tables)
+    pub table : tableIn p R s t ≡ T₀
+    pub long : length s ≡ length s₀
+    pub counted : i + left ≡ n
+    pub got : isGot (times (valuesAt rec) left q) ≡ true
+    pub fills : fillsFault T₀ M i (rowsAt rec left q) ≡ none
+    pub remains : Remains (insertRow p R T₀) (parse p R s₀) whole (parse p R s) i (map full (rowsAt rec left q))
+
+  pub inserting-start : Store p R s₀ → t < length ((parse p R s₀) .tables) → isGot (times (valuesAt rec) n at) ≡ true → fillsFault T₀ M 0 (rowsAt rec n at) ≡ none
+      → Inserting s₀ n at 0
+  inserting-start b h g f =
+      record {
+        store = b;
+        known = h;
+        table = refl;
+        long = refl;
+        counted = omega arith;
+        got = g;
+        fills = f;
+        remains = remains-start (insertRow p R T₀) (parse p R s₀) whole;
+      }
+
+  module _ (s : List ℕ) (left q i : ℕ) (x : Inserting s left q i) where
+    pub inserting-end : left ≤ 0 → (a : Answer) → said a ≡ ok n → Stored p R (inTurn (insertRow p R T₀) (parse p R s₀) 0 whole) s₀ s a
+    inserting-end l a h =
+        let e : n ≡ i = omega (arith, x .counted) in
+        stored-end p R (insertRow p R T₀) s₀ whole s (x .store .bytes) i
+        (subst (λ (vss : List (List Value)). Remains (insertRow p R T₀) (parse p R s₀) whole (parse p R s) i (map full vss)) (rows-none rec left q l) (x .remains))
+        a (h ∙ ap ok e)
+
+    module _ (l : 0 < left) where
+      here : RowFirst rec left q
+      here = row-first rec left q l (x .got)
+
+      ends-there : Ends (here .next) ≡ walkedAs (valuesAt rec q)
+      ends-there = ends (here .values) (here .next) ∙ ap walkedAs (sym (here .is))
+
+      filling : (fillFault T₀ M (here .values) ≡ none) × (fillsFault T₀ M (suc i) (rowsAt rec (left - 1) (here .next)) ≡ none)
+      unfolding fillsFault
+      filling =
+          let o = orElse-none _ _ (sym (ap (fillsFault T₀ M i) (here .all)) ∙ x .fills) in
+          (at-none i _ (o .0), o .1)
+
+      -- the table's record, and the row that is filled from the count and the values at q
+      module _ (tab : List ℕ) (et : tab ≡ getD ((lists p R s) .schemas) t []) where
+        pub inserting-record : TableBytes p tab
+        inserting-record = rec-bytes p R s t (laid-store p R s (x .store)) (x .known) tab et
+
+        module _ (c : ℕ) (ec : c ≡ getD rec q 0) (row : Row)
+            (er : filledOf (length ((readTable p tab) .columns)) row ≡ fill (given M (valuesFrom rec c (q + 1))) 0 ((readTable p tab) .columns)) (pr : ProperRow row) where
+          its-table : readTable p tab ≡ T₀
+          its-table = sym (table-is p R s t (laid-store p R s (x .store)) (x .known) tab et) ∙ x .table
+
+          its-values : valuesFrom rec c (q + 1) ≡ here .values
+          its-values = ap (λ (k : ℕ). valuesFrom rec k (q + 1)) ec ∙ values-there rec q (here .values) (here .next) (here .is) .0
+
+          filled-as : filledOf (length (T₀ .columns)) row ≡ fill (given M (here .values)) 0 (T₀ .columns)
+          filled-as =
+              ap (λ (z : Table). filledOf (length (z .columns)) row) (sym its-table)
+              ∙ er
+              ∙ ap (λ (z : Table). fill (given M (valuesFrom rec c (q + 1))) 0 (z .columns)) its-table
+              ∙ ap (λ (vs : List Value). fill (given M vs) 0 (T₀ .columns)) its-values
+
+          pub inserting-full : FullRow p R s t row
+          inserting-full =
+              record {
+                known = x .known;
+                proper = pr;
+                full = full-count T₀ M (here .values) row filled-as (filling .0) ∙ ap (λ (z : Table). length (z .columns)) (sym (x .table));
+                normal =
+                    full-normal T₀ M (here .values) row filled-as (filling .0) p
+                    (subst (λ (z : Table). goodTable p z ≡ true) (x .table) (table-good p R s (x .store) t (x .known)))
+                    (values-normal rec q (here .values) (here .next) (here .is));
+              }
+
+          -- its turn
+          module _ (s₁ : List ℕ) (a : Answer) (h : Stored p R (numbered i (insertRow p R (tableIn p R s t) (parse p R s) (cellsOf row))) s s₁ a) where
+            same-outcome : insertRow p R (tableIn p R s t) (parse p R s) (cellsOf row) ≡ insertRow p R T₀ (parse p R s) (full (here .values))
+            same-outcome =
+                ap (λ (z : Table). insertRow p R z (parse p R s) (cellsOf row)) (x .table)
+                ∙ ap (insertRow p R T₀ (parse p R s)) (full-cells T₀ M (here .values) row filled-as (filling .0))
+
+            its-turn : Stored p R (numbered i (insertRow p R T₀ (parse p R s) (full (here .values)))) s s₁ a
+            its-turn = subst (λ (o : Outcome). Stored p R (numbered i o) s s₁ a) same-outcome h
+
+            to-come : Remains (insertRow p R T₀) (parse p R s₀) whole (parse p R s) i (full (here .values) ∷ map full (rowsAt rec (left - 1) (here .next)))
+            to-come = subst (λ (vss : List (List Value)). Remains (insertRow p R T₀) (parse p R s₀) whole (parse p R s) i (map full vss)) (here .all) (x .remains)
+
+            pub turn-long : length s₁ ≡ length s₀
+            turn-long = row-long p R s (x .store) t (x .known) row inserting-full i s₁ a h ∙ x .long
+
+            pub inserting-stops : eqb (numberOf (a .kind)) 0 ≡ false → Stored p R (inTurn (insertRow p R T₀) (parse p R s₀) 0 whole) s₀ s₁ a
+            inserting-stops g =
+                stored-stops p R (insertRow p R T₀) s₀ whole s i (full (here .values)) (map full (rowsAt rec (left - 1) (here .next))) to-come s₁ a its-turn g
+
+            pub inserting-next : eqb (numberOf (a .kind)) 0 ≡ true → (w : Walked) (y : ℕ) → w ≡ walkedAs (valuesAt rec q) → w ≡ Ends y → Inserting s₁ (left - 1) y (i + 1)
+            inserting-next g w y ew ey =
+                let d : Ends (here .next) ≡ Ends y = ends-there ∙ sym ew ∙ ey in
+                let k : here .next ≡ y = cc d in
+                subst (λ (j : ℕ). Inserting s₁ (left - 1) j (i + 1)) k
+                (record {
+                  store = row-store p R s (x .store) t (x .known) row inserting-full i s₁ a h;
+                  known = row-known p R s (x .store) t (x .known) row inserting-full i s₁ a h;
+                  table = row-table p R s (x .store) t (x .known) row inserting-full i s₁ a h ∙ x .table;
+                  long = turn-long;
+                  counted = omega (arith, x .counted);
+                  got = here .then;
+                  fills = ap (λ (j : ℕ). fillsFault T₀ M j (rowsAt rec (left - 1) (here .next))) (add-one i) ∙ filling .1;
+                  remains =
+                      stored-next p R (insertRow p R T₀) s₀ whole s i (full (here .values)) (map full (rowsAt rec (left - 1) (here .next))) to-come s₁ a its-turn g
+                      (row-reads p R s (x .store) t (x .known) row inserting-full i s₁ a h ∙ ap (λ (o : Outcome). applyAll (o .changes) (parse p R s)) same-outcome);
+                })

@@ -1,0 +1,13 @@
+pub mod Read
+pub mod ValuesFrom
+pub mod Mapping
+pub mod SchemaWritten
+pub mod Pairs
+pub mod InTurn
+pub mod FullRows
+pub mod Operands
+pub mod PairsWritten
+pub mod Asked
+pub mod Entered
+pub mod Inserting
+pub mod InsertRead

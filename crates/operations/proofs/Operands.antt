@@ -1,0 +1,202 @@
+-- The operands of a drop, a delete and an update, as the code reads them, and what an update comes to, case by case. Assumes nothing.
+use Prim.Native.Nat.{ℕ, _+_, _<_}
+use mathlib.Core.Path.{_≡_, sym, ap, _∙_, subst}
+use mathlib.Core.Bool.{Bool, true, false, cond, true≢false}
+use mathlib.Core.List.{List, []}
+use mathlib.Core.Option.{none, some}
+use lib.Dec.{eqb}
+use lib.ListN.{length, getD}
+use Rattle.values.specs.Basic.{maybe, _orElse_}
+use Rattle.values.specs.Meaning.{textBytes, Packed}
+use Rattle.values.specs.Read.{Read, got, broken, nameAt, nameRead, NameRead, ProperName}
+use Rattle.values.specs.Value.{Value}
+use Rattle.values.specs.declared.read.ReadName.the-variants.{Named, Bad}
+use Rattle.values.specs.declared.read.ReadName.{ReadName}
+use Rattle.values.specs.declared.value.Text.{Text}
+use Rattle.rules.specs.Layout.{lists, parse, readTable}
+use Rattle.rules.specs.Refusal.{numberOf}
+use Rattle.rules.specs.Request.{Pair, Request, Drop, Update, Delete, Names, said, no}
+use Rattle.rules.specs.Rows.{risingFault, sizeFault}
+use Rattle.rules.specs.Schema as Schema
+use Rattle.rules.specs.State.{Name, Table, State, tableNamed, isNamed}
+use Rattle.rules.specs.Step.{refused, act, drop, delete, update, pair, inTurn}
+use Rattle.rules.specs.declared.answer.Answer.{Answer}
+use Rattle.rules.specs.declared.answer.Refusal.{Refusal}
+use Rattle.rules.specs.declared.answer.Refusal.the-variants.{UnknownTable}
+use Rattle.rules.specs.declared.profile.Profile.{Profile}
+use Rattle.laid.specs.Catalog.{placeOf}
+use Rattle.checks.specs.Faults.{faultOf}
+use Rattle.checks.specs.Keys.{valuesFrom}
+use Rattle.laid.specs.Row.{tableIn}
+use Rattle.laid.specs.Store.{LaidStore, Store, Stored}
+use Rattle.checks.specs.declared.schema_fault.Fault.{Fault}
+use Rattle.laid.proofs.Finding.{place-found, place-missing}
+use Rattle.checks.proofs.Fitting.{table-is}
+use Rattle.store.proofs.KeysRemoved.{table-below}
+use Rattle.store.proofs.Outcomes.{unchanged}
+use Rattle.laid.proofs.RowFacts.{table-there}
+use Rattle.operations.specs.Got.{isGot, gotOr}
+use Rattle.operations.specs.Mapped.{pairsAt}
+use Rattle.records.specs.Reading.{andThen, times, byteAt, byteFrom}
+use Rattle.records.specs.Record.{valuesAt, dropAt, pairAt, updateAt, keysAt}
+use Rattle.operations.specs.Told.{Acted}
+use Rattle.operations.proofs.ValuesFrom.{was-got, got-is, got-gives, parted, byte-there, from-there, values-there, values-inside}
+
+-- ---- a name and then the rest: r is what was read of the name
+
+module _ (s : List ℕ) (at : ℕ) (r : ReadName) (e : NameRead s at r) where
+  pub named-then : {B : Type 0} (f : List ℕ → ℕ → Read B) (t : Text) (n : ℕ) → r ≡ Named t n → andThen (nameAt s at) f ≡ f (textBytes t) n
+  unfolding andThen
+  named-then f t n h = let g : nameAt s at ≡ got (textBytes t) n = sym (e .is) ∙ ap nameRead h in rw g
+
+  -- a name that breaks breaks all
+  pub unnamed : {B : Type 0} (f : List ℕ → ℕ → Read B) (x : ℕ) → r ≡ Bad x → isGot (andThen (nameAt s at) f) ≡ true → ⊥
+  unfolding andThen isGot
+  unnamed f x h g =
+      let b : nameAt s at ≡ broken x = sym (e .is) ∙ ap nameRead h in
+      true≢false (sym g ∙ ap (λ (w : Read (List ℕ)). isGot (andThen w f)) b)
+
+  pub drop-unnamed : (x : ℕ) → r ≡ Bad x → isGot (dropAt s at) ≡ true → ⊥
+  unfolding dropAt
+  drop-unnamed x h g = unnamed _ x h g
+
+  pub keys-unnamed : (make : List ℕ → List Value → Request) (x : ℕ) → r ≡ Bad x → isGot (keysAt s make at) ≡ true → ⊥
+  unfolding keysAt
+  keys-unnamed make x h g = unnamed _ x h g
+
+  pub update-unnamed : (x : ℕ) → r ≡ Bad x → isGot (updateAt s at) ≡ true → ⊥
+  unfolding updateAt
+  update-unnamed x h g = unnamed _ x h g
+
+  module _ (t : Text) (n : ℕ) (h : r ≡ Named t n) where
+    pub packed : Packed t
+    packed = subst ProperName h (e .proper)
+
+    -- ---- a flag
+    module _ (g : isGot (dropAt s at) ≡ true) where
+      pub drop-read : (c : ℕ) → c ≡ getD s n 0 → gotOr Names (dropAt s at) ≡ Drop (textBytes t) (eqb c 1)
+      unfolding dropAt
+      drop-read c ec =
+          let d = named-then (λ name a. andThen (byteFrom 0 1 s a) (λ x b. got (Drop name (eqb x 1)) b)) t n h in
+          let w = was-got _ (subst (λ (z : Read Request). isGot z ≡ true) d g) in
+          let b = parted (byteFrom 0 1 s n) _ (w .what) (w .end) (w .is) in
+          let k = from-there 0 1 s n (b .first) (b .next) (b .is) in
+          let l : w .what ≡ Drop (textBytes t) (eqb (b .first) 1) = cc (b .then) in
+          got-gives Names _ (w .what) (w .end) (d ∙ w .is) ∙ l ∙ ap (λ (x : ℕ). Drop (textBytes t) (eqb x 1)) (sym (ec ∙ k .is))
+
+    -- ---- keys
+    module _ (make : List ℕ → List Value → Request) (g : isGot (keysAt s make at) ≡ true) where
+      keys-are : (gotOr Names (keysAt s make at) ≡ make (textBytes t) (valuesFrom s (getD s n 0) (n + 1))) × (n < length s)
+      unfolding keysAt
+      keys-are =
+          let d = named-then (λ name a. andThen (valuesAt s a) (λ ks b. got (make name ks) b)) t n h in
+          let w = was-got _ (subst (λ (z : Read Request). isGot z ≡ true) d g) in
+          let b = parted (valuesAt s n) _ (w .what) (w .end) (w .is) in
+          let l : w .what ≡ make (textBytes t) (b .first) = cc (b .then) in (
+            got-gives Names _ (w .what) (w .end) (d ∙ w .is) ∙ l ∙ ap (make (textBytes t)) (sym (values-there s n (b .first) (b .next) (b .is) .0)),
+            values-inside s n (b .first) (b .next) (b .is),
+          )
+
+      pub keys-read : (c : ℕ) → c ≡ getD s n 0 → gotOr Names (keysAt s make at) ≡ make (textBytes t) (valuesFrom s c (n + 1))
+      keys-read c ec = keys-are .0 ∙ ap (λ (j : ℕ). make (textBytes t) (valuesFrom s j (n + 1))) (sym ec)
+
+      pub keys-inside : n < length s
+      keys-inside = keys-are .1
+
+    -- ---- pairs
+    module _ (g : isGot (updateAt s at) ≡ true) where
+      update-are : (gotOr Names (updateAt s at) ≡ Update (textBytes t) (pairsAt s (getD s n 0) (n + 1))) × (isGot (times (pairAt s) (getD s n 0) (n + 1)) ≡ true) × (n < length s)
+      unfolding updateAt pairsAt
+      update-are =
+          let d = named-then (λ name a. andThen (byteAt s a) (λ m b. andThen (times (pairAt s) m b) (λ qs c. got (Update name qs) c))) t n h in
+          let w = was-got _ (subst (λ (z : Read Request). isGot z ≡ true) d g) in
+          let b = parted (byteAt s n) _ (w .what) (w .end) (w .is) in
+          let k = byte-there s n (b .first) (b .next) (b .is) in
+          let q = parted (times (pairAt s) (b .first) (b .next)) _ (w .what) (w .end) (b .then) in
+          let l : w .what ≡ Update (textBytes t) (q .first) = cc (q .then) in
+          let z : times (pairAt s) (getD s n 0) (n + 1) ≡ got (q .first) (q .next) = rw (k .is, k .next) (q .is) in (
+            got-gives Names _ (w .what) (w .end) (d ∙ w .is) ∙ l ∙ ap (Update (textBytes t)) (sym (got-gives [] _ (q .first) (q .next) z)),
+            got-is _ (q .first) (q .next) z,
+            k .inside,
+          )
+
+      module _ (c : ℕ) (ec : c ≡ getD s n 0) where
+        pub update-read : gotOr Names (updateAt s at) ≡ Update (textBytes t) (pairsAt s c (n + 1))
+        update-read = update-are .0 ∙ ap (λ (j : ℕ). Update (textBytes t) (pairsAt s j (n + 1))) (sym ec)
+
+        pub pairs-got : isGot (times (pairAt s) c (n + 1)) ≡ true
+        pairs-got = ap (λ (j : ℕ). isGot (times (pairAt s) j (n + 1))) ec ∙ update-are .1
+
+      pub update-inside : n < length s
+      update-inside = update-are .2
+
+-- ---- what the store did is what the request asks
+
+module _ (p : Profile) (R : ℕ) (before after : List ℕ) (a : Answer) (w : Read Request) (n : Name) where
+  pub drop-acted : (x : Bool) → gotOr Names w ≡ Drop n x → Stored p R (drop (parse p R before) n x) before after a → Acted p R w before after a
+  unfolding act
+  drop-acted x e h = rw e h
+
+  pub delete-acted : (ks : List Value) → gotOr Names w ≡ Delete n ks → Stored p R (delete (parse p R before) n ks) before after a → Acted p R w before after a
+  unfolding act
+  delete-acted ks e h = rw e h
+
+  pub update-acted : (qs : List Pair) → gotOr Names w ≡ Update n qs → Stored p R (update p R (parse p R before) n qs) before after a → Acted p R w before after a
+  unfolding act
+  update-acted qs e h = rw e h
+
+-- ---- an update: 2; 35; 25; pair by pair
+
+-- a fault that the code has is the one that is said
+module _ (f : Fault) (o : Schema.Fault) (e : faultOf f ≡ o) (b : Bool) (eb : b ≡ eqb (numberOf (f .kind)) 0) where
+  pub fault-some : b ≡ false → o ≡ some (f .kind, f .at)
+  fault-some h = sym e ∙ ap (λ (x : Bool). cond x none (some (f .kind, f .at))) (sym eb ∙ h)
+
+  pub fault-none : b ≡ true → o ≡ none
+  fault-none h = sym e ∙ ap (λ (x : Bool). cond x none (some (f .kind, f .at))) (sym eb ∙ h)
+
+-- 25 is asked of the table that its record says
+module _ (p : Profile) (R : ℕ) (s : List ℕ) (t : ℕ) (b : LaidStore p R s) (h : t < length ((parse p R s) .tables)) (tab : List ℕ) (et : tab ≡ getD ((lists p R s) .schemas) t []) where
+  pub size-told : (f : Fault) (qs : List Pair) → faultOf f ≡ sizeFault (readTable p tab) 0 qs → faultOf f ≡ sizeFault (tableIn p R s t) 0 qs
+  size-told f qs e = e ∙ ap (λ (x : Table). sizeFault x 0 qs) (sym (table-is p R s t b h tab et))
+
+module _ (p : Profile) (R : ℕ) (st : State) (n : Name) (qs : List Pair) where
+  update-unknown : tableNamed (st .tables) n ≡ none → update p R st n qs ≡ refused (no UnknownTable 0)
+  unfolding update maybe
+  update-unknown f = rw f
+
+  module _ (t : Table) (f : tableNamed (st .tables) n ≡ some t) where
+    update-falls : (k : Refusal) (i : ℕ) → risingFault 0 qs ≡ some (k, i) → update p R st n qs ≡ refused (no k i)
+    unfolding update maybe _orElse_
+    update-falls k i e = rw (f, e)
+
+    module _ (e : risingFault 0 qs ≡ none) where
+      update-sizes : (k : Refusal) (i : ℕ) → sizeFault t 0 qs ≡ some (k, i) → update p R st n qs ≡ refused (no k i)
+      unfolding update maybe _orElse_
+      update-sizes k i g = rw (f, e, g)
+
+      update-goes : sizeFault t 0 qs ≡ none → update p R st n qs ≡ inTurn (pair p R t) st 0 qs
+      unfolding update maybe _orElse_
+      update-goes g = rw (f, e, g)
+
+module _ (p : Profile) (R : ℕ) (s : List ℕ) (b : Store p R s) (n : Name) (qs : List Pair) where
+  abbrev before : State
+  before = parse p R s
+
+  pub update-missed : none ≡ placeOf (isNamed n) (before .tables) → (a : Answer) → said a ≡ no UnknownTable 0 → Stored p R (update p R before n qs) s s a
+  update-missed f a h = unchanged p R s b (update p R before n qs) (no UnknownTable 0) (update-unknown p R before n qs (place-missing (isNamed n) (before .tables) (sym f))) a h
+
+  module _ (t : ℕ) (f : some t ≡ placeOf (isNamed n) (before .tables)) where
+    table-its : tableNamed (before .tables) n ≡ some (tableIn p R s t)
+    table-its = sym (place-found (isNamed n) (before .tables) t (sym f) .1) ∙ table-there p R s t (table-below p R s b n [] t f)
+
+    pub update-not-rising : (k : Refusal) (i : ℕ) → risingFault 0 qs ≡ some (k, i) → (a : Answer) → said a ≡ no k i → Stored p R (update p R before n qs) s s a
+    update-not-rising k i e a h = unchanged p R s b (update p R before n qs) (no k i) (update-falls p R before n qs (tableIn p R s t) table-its k i e) a h
+
+    module _ (e : risingFault 0 qs ≡ none) where
+      pub update-not-sized : (k : Refusal) (i : ℕ) → sizeFault (tableIn p R s t) 0 qs ≡ some (k, i) → (a : Answer) → said a ≡ no k i → Stored p R (update p R before n qs) s s a
+      update-not-sized k i g a h = unchanged p R s b (update p R before n qs) (no k i) (update-sizes p R before n qs (tableIn p R s t) table-its e k i g) a h
+
+      pub update-in-turn : sizeFault (tableIn p R s t) 0 qs ≡ none → (after : List ℕ) (a : Answer) → Stored p R (inTurn (pair p R (tableIn p R s t)) before 0 qs) s after a
+          → Stored p R (update p R before n qs) s after a
+      update-in-turn g after a h = rw (update-goes p R before n qs (tableIn p R s t) table-its e g) h

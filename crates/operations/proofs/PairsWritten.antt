@@ -1,0 +1,270 @@
+-- The pairs of an update, carried out one after the other: a store again after each, and what remains of them comes to what all come to.
+-- Assumes nothing.
+use Prim.Native.Nat.{ℕ, _+_, _-_, _≤_, _<_}
+use mathlib.Core.Path.{_≡_, refl, sym, ap, _∙_, subst}
+use mathlib.Core.Bool.{Bool, true, false, true≢false}
+use mathlib.Core.List.{List, [], _∷_}
+use mathlib.Core.Option.{none, some, Option·some-ne-none}
+use native.Mathlib.Omega.{arith}
+use lib.Dec.{eqb}
+use lib.ListN.{length, getD, take}
+use borrow.Author.Tests.{eq-eqb, eqb-true}
+use Rattle.values.specs.Basic.{nth, orDefault}
+use Rattle.values.specs.Meaning.{held, Proper}
+use Rattle.values.specs.Read.{got, CellRead}
+use Rattle.values.specs.Sorted.{All}
+use Rattle.values.specs.Value.{Value, same}
+use Rattle.values.specs.declared.read.ReadCell.{ReadCell}
+use Rattle.values.specs.declared.read.ReadCell.the-variants.{Got, Broken}
+use Rattle.values.specs.declared.value.Cell.{Cell}
+use Rattle.rules.specs.declared.profile.Profile.{Profile}
+use Rattle.rules.specs.declared.answer.Answer.{Answer}
+use Rattle.rules.specs.declared.answer.Refusal.the-variants.{RowSize}
+use Rattle.rules.specs.Refusal.{numberOf}
+use Rattle.rules.specs.State.{Table, State, tableNamed, keyOf, rowOf}
+use Rattle.rules.specs.Layout.{parse, unknown}
+use Rattle.rules.specs.Request.{Pair, said, ok}
+use Rattle.rules.specs.Rows.{sizeFault}
+use Rattle.rules.specs.Step.{Change, added, apply, applyAll, Outcome, numbered, inTurn, removals, sameKey, reinsert, otherKey, pair}
+use Rattle.rules.proofs.Asked.{Ready, Good}
+use Rattle.rules.proofs.Catalog.{stored-named}
+use Rattle.rules.proofs.Keeps.{pair-keeps}
+use Rattle.rules.proofs.Kept.{valid-keeps}
+use Rattle.rules.proofs.Removed.{applyAll-append, removals-come}
+use Rattle.rules.proofs.Tests.{by-option, by-cond}
+use Rattle.rules.proofs.Trip.{table-good}
+use Rattle.rules.proofs.Valid.{Valid}
+use Rattle.checks.specs.Keys.{valuesFrom}
+use Rattle.store.specs.Removed.{pairOf}
+use Rattle.laid.specs.Row.{cellsOf, NormalCell, ProperRow, tableIn, FullRow}
+use Rattle.laid.specs.Store.{Store, Stored}
+use Rattle.laid.specs.declared.row.Row.{Row}
+use Rattle.laid.proofs.RowFacts.{table-held}
+use Rattle.laid.proofs.Stores.{store-valid, store-inside, laid-store}
+use Rattle.store.proofs.Written.{reads-back, store-again}
+use Rattle.operations.specs.Got.{isGot}
+use Rattle.operations.specs.Mapped.{pairsAt}
+use Rattle.records.specs.Reading.{times}
+use Rattle.records.specs.Record.{valuesAt, pairAt}
+use Rattle.records.specs.Walked.{walkedAs}
+use Rattle.records.specs.declared.record.Walked.the-variants.{Ends, Breaks}
+use Rattle.records.specs.declared.record.Walked.{Walked}
+use Rattle.operations.proofs.FullRows.{Normal, values-normal, cells-normal, row-canonical, row-length}
+use Rattle.operations.proofs.InTurn.{Remains, remains-start, stored-end, stored-stops, stored-next}
+use Rattle.operations.proofs.Pairs.{PairThere, pair-there, pairs-none, row-end, row-never, size-over, size-again, others-left, old-never, old-is, old-end}
+use Rattle.checks.proofs.KeysRead.{values-end, values-got}
+use Rattle.operations.proofs.ValuesFrom.{cell-proper, values-there, values-inside}
+
+-- ---- a store after a pair's turn
+
+-- the schemas stay
+abbrev Stays : State → Outcome → Type 0
+Stays st o = (applyAll (o .changes) st) .tables ≡ st .tables
+
+again-tables : (p : Profile) (R : ℕ) (t : Table) (st : State) (cs : List Change) (v : List Value) → (applyAll cs st) .tables ≡ st .tables
+    → Stays st (reinsert p R t (applyAll cs st) cs v)
+unfolding reinsert applyAll apply
+again-tables p R t st cs v gone =
+    by-option (Stays st) _ _ _
+    (λ e. ap (λ (x : State). x .tables) (applyAll-append cs (added (rowOf t v) ∷ []) st) ∙ gone)
+    (λ k e. gone)
+
+pair-tables : (p : Profile) (R : ℕ) (t : Table) (st : State) (q : Pair) → Stays st (pair p R t st q)
+unfolding pair sameKey otherKey applyAll apply
+pair-tables p R t st q =
+    by-cond (Stays st) (same (q .old) (keyOf t (q .row))) _ _
+    (λ e. by-option (Stays st) _ _ _ (λ f. by-option (Stays st) _ _ _ (λ g. refl) (λ old g. refl)) (λ k f. refl))
+    (λ e. by-option (Stays st) _ _ _
+    (λ f.
+    again-tables p R t st (removals (st .rows) (t .name) (q .old ∷ [])) (q .row)
+    (ap (λ (x : State). x .tables) (removals-come (q .old ∷ []) (t .name) st)))
+    (λ k f. refl))
+
+module _ (p : Profile) (R : ℕ) (s : List ℕ) (b : Store p R s) (t : ℕ) (old : Value) (row : Row) (f : FullRow p R s t row) where
+  abbrev st : State
+  st = parse p R s
+
+  abbrev T : Table
+  T = tableIn p R s t
+
+  abbrev its : Pair
+  its = record { old = old; row = cellsOf row }
+
+  own-named : tableNamed (st .tables) (T .name) ≡ some T
+  own-named = stored-named (st .tables) (store-valid p R s b .tables-sorted) T (table-held p R s (laid-store p R s b) t (f .known))
+
+  ready : Ready T (cellsOf row)
+  ready = (row-length row (f .proper) ∙ f .full, row-canonical row (f .proper) (f .normal))
+
+  abbrev next : State
+  next = applyAll ((pair p R T st its) .changes) st
+
+  next-valid : Valid p R next
+  next-valid = pair-keeps p R (λ n. Unit {0}) Ready (Good p) (Valid p R) (valid-keeps p R) T tt its ready st (store-valid p R s b, own-named) .0
+
+  module _ (i : ℕ) (s₁ : List ℕ) (a : Answer) (h : Stored p R (numbered i (pair p R T st its)) s s₁ a) where
+    pair-store : Store p R s₁
+    pair-store = store-again p R s b next next-valid s₁ (h .bytes)
+
+    pair-reads : parse p R s₁ ≡ next
+    pair-reads = reads-back p R s b next next-valid s₁ (h .bytes)
+
+    tables-are : (parse p R s₁) .tables ≡ st .tables
+    tables-are = ap (λ (x : State). x .tables) pair-reads ∙ pair-tables p R T st its
+
+    pair-table : tableIn p R s₁ t ≡ T
+    unfolding tableIn
+    pair-table = ap (λ (ts : List Table). orDefault (nth ts t) (unknown [])) tables-are
+
+    pair-known : t < length ((parse p R s₁) .tables)
+    pair-known = subst (λ (ts : List Table). t < length ts) (sym tables-are) (f .known)
+
+    pair-long : length s₁ ≡ length s
+    pair-long = store-inside p R s₁ pair-store .long ∙ sym (store-inside p R s b .long)
+
+-- ---- the loop: `left` pairs are to come, from q on, and i are done
+
+module _ (p : Profile) (R : ℕ) (s₀ : List ℕ) (t : ℕ) (rec : List ℕ) (at n : ℕ) where
+  abbrev T₀ : Table
+  T₀ = tableIn p R s₀ t
+
+  abbrev whole : List Pair
+  whole = pairsAt rec n at
+
+  pub record Updating (s : List ℕ) (left q i : ℕ) : Type 0 where
+    pub store : Store p R s
+    pub known : t < length ((parse p R s) .tables)
+    pub table : tableIn p R s t ≡ T₀
+    pub long : length s ≡ length s₀
+    pub counted : i + left ≡ n
+    pub got : isGot (times (pairAt rec) left q) ≡ true
+    pub sizes : sizeFault T₀ i (pairsAt rec left q) ≡ none
+    pub remains : Remains (pair p R T₀) (parse p R s₀) whole (parse p R s) i (pairsAt rec left q)
+
+  pub updating-start : Store p R s₀ → t < length ((parse p R s₀) .tables) → isGot (times (pairAt rec) n at) ≡ true → sizeFault T₀ 0 (pairsAt rec n at) ≡ none
+      → Updating s₀ n at 0
+  updating-start b h g f =
+      record {
+        store = b;
+        known = h;
+        table = refl;
+        long = refl;
+        counted = omega arith;
+        got = g;
+        sizes = f;
+        remains = remains-start (pair p R T₀) (parse p R s₀) whole;
+      }
+
+  module _ (s : List ℕ) (left q i : ℕ) (x : Updating s left q i) where
+    pub updating-end : left ≤ 0 → (a : Answer) → said a ≡ ok n → Stored p R (inTurn (pair p R T₀) (parse p R s₀) 0 whole) s₀ s a
+    updating-end l a h =
+        let e : n ≡ i = omega (arith, x .counted) in
+        stored-end p R (pair p R T₀) s₀ whole s (x .store .bytes) i
+        (subst (λ (qs : List Pair). Remains (pair p R T₀) (parse p R s₀) whole (parse p R s) i qs) (pairs-none rec left q l) (x .remains))
+        a (h ∙ ap ok e)
+
+    -- the old key as the code read it
+    module _ (l : 0 < left) (r : ReadCell) (er : CellRead rec q r) where
+      here : PairThere rec left q
+      here = pair-there rec left q l (x .got)
+
+      pub old-whole : (y : ℕ) → r ≡ Broken y → ⊥
+      old-whole y e = old-never rec left q here r er y e
+
+      module _ (c : Cell) (m : ℕ) (e : r ≡ Got c m) where
+        mid : m ≡ here .mid
+        mid = old-end rec left q here r er c m e
+
+        at-row : valuesAt rec m ≡ got (here .head .row) (here .next)
+        at-row = ap (valuesAt rec) mid ∙ here .values
+
+        pub old-alone : valuesFrom rec 1 q ≡ held c ∷ []
+        old-alone = values-got rec 1 q r er (omega arith) c m e ∙ ap (λ (vs : List Value). held c ∷ vs) (values-end rec (1 - 1) m (λ h. omega arith))
+
+        pub old-proper : Proper (c .value)
+        old-proper = cell-proper rec 1 q r er c m e
+
+        pub row-inside : m < length rec
+        row-inside = values-inside rec m (here .head .row) (here .next) at-row
+
+        pub row-whole : (w : Walked) (y : ℕ) → w ≡ walkedAs (valuesAt rec m) → w ≡ Breaks y → ⊥
+        row-whole w y ew ey = row-never rec left q here m mid w y ew ey
+
+        -- as many values as the table has columns
+        sized : getD rec m 0 ≡ length (T₀ .columns)
+        sized = go (eqb (getD rec m 0) (length (T₀ .columns))) refl
+          where
+            go : (b : Bool) → eqb (getD rec m 0) (length (T₀ .columns)) ≡ b → getD rec m 0 ≡ length (T₀ .columns)
+            go true f = eqb-true _ _ f
+            go false f =
+                absurd (Option·some-ne-none (RowSize, i) (size-over rec left q here m mid T₀ i none (x .sizes) (λ g. true≢false (sym (eq-eqb _ _ g) ∙ f))))
+
+        module _ (k : ℕ) (ek : k ≡ getD rec m 0) where
+          its-values : valuesFrom rec k (m + 1) ≡ here .head .row
+          its-values = ap (λ (j : ℕ). valuesFrom rec j (m + 1)) ek ∙ values-there rec m (here .head .row) (here .next) at-row .0
+
+          pub row-counts : length (valuesFrom rec k (m + 1)) ≡ k
+          row-counts = ap length its-values ∙ values-there rec m (here .head .row) (here .next) at-row .1 ∙ sym ek
+
+          pub row-few : p .columns ≤ 8 → k ≤ 8
+          row-few h =
+              let g = table-good p (tableIn p R s t) (store-valid p R s (x .store) .good-tables (tableIn p R s t) (table-held p R s (laid-store p R s (x .store)) t (x .known))) .few in
+              let z : k ≡ length ((tableIn p R s t) .columns) = ek ∙ sized ∙ ap (λ (y : Table). length (y .columns)) (sym (x .table)) in
+              omega (arith, g, z, h)
+
+          module _ (row : Row) (ec : cellsOf row ≡ valuesFrom rec k (m + 1)) (pr : ProperRow row) (en : row .count ≡ k) where
+            its-normal : All NormalCell (take (row .count) (row .cells))
+            unfolding cellsOf
+            its-normal =
+                cells-normal (take (row .count) (row .cells))
+                (subst (All Normal) (sym (ec ∙ its-values)) (values-normal rec m (here .head .row) (here .next) at-row))
+
+            pub row-full : FullRow p R s t row
+            row-full =
+                record {
+                  known = x .known;
+                  proper = pr;
+                  full = en ∙ ek ∙ sized ∙ ap (λ (z : Table). length (z .columns)) (sym (x .table));
+                  normal = its-normal;
+                }
+
+            -- its turn
+            module _ (s₁ : List ℕ) (a : Answer) (h : Stored p R (numbered i (pair p R (tableIn p R s t) (parse p R s) (pairOf (c .value) row))) s s₁ a) where
+              same-pair : pairOf (c .value) row ≡ here .head
+              same-pair =
+                  ap {B = Pair} (λ (v : Value). record { old = v; row = cellsOf row }) (old-is rec left q here r er c m e)
+                  ∙ ap {B = Pair} (λ (vs : List Value). record { old = here .head .old; row = vs }) (ec ∙ its-values)
+
+              same-outcome : pair p R (tableIn p R s t) (parse p R s) (pairOf (c .value) row) ≡ pair p R T₀ (parse p R s) (here .head)
+              same-outcome =
+                  ap (λ (z : Table). pair p R z (parse p R s) (pairOf (c .value) row)) (x .table) ∙ ap (pair p R T₀ (parse p R s)) same-pair
+
+              its-turn : Stored p R (numbered i (pair p R T₀ (parse p R s) (here .head))) s s₁ a
+              its-turn = subst (λ (o : Outcome). Stored p R (numbered i o) s s₁ a) same-outcome h
+
+              to-come : Remains (pair p R T₀) (parse p R s₀) whole (parse p R s) i (here .head ∷ pairsAt rec (left - 1) (here .next))
+              to-come = subst (λ (qs : List Pair). Remains (pair p R T₀) (parse p R s₀) whole (parse p R s) i qs) (here .all) (x .remains)
+
+              pub turn-long : length s₁ ≡ length s₀
+              turn-long = pair-long p R s (x .store) t (held c) row row-full i s₁ a h ∙ x .long
+
+              pub updating-stops : eqb (numberOf (a .kind)) 0 ≡ false → Stored p R (inTurn (pair p R T₀) (parse p R s₀) 0 whole) s₀ s₁ a
+              updating-stops g =
+                  stored-stops p R (pair p R T₀) s₀ whole s i (here .head) (pairsAt rec (left - 1) (here .next)) to-come s₁ a its-turn g
+
+              pub updating-next : eqb (numberOf (a .kind)) 0 ≡ true → (w : Walked) (y : ℕ) → w ≡ walkedAs (valuesAt rec m) → w ≡ Ends y → Updating s₁ (left - 1) y (i + 1)
+              updating-next g w y ew ey =
+                  let k : y ≡ here .next = row-end rec left q here m mid w y ew ey in
+                  record {
+                    store = pair-store p R s (x .store) t (held c) row row-full i s₁ a h;
+                    known = pair-known p R s (x .store) t (held c) row row-full i s₁ a h;
+                    table = pair-table p R s (x .store) t (held c) row row-full i s₁ a h ∙ x .table;
+                    long = turn-long;
+                    counted = omega (arith, x .counted);
+                    got = others-left rec left q here y k;
+                    sizes = size-again rec left q here m mid T₀ i none (x .sizes) y k sized;
+                    remains =
+                        subst (λ (j : ℕ). Remains (pair p R T₀) (parse p R s₀) whole (parse p R s₁) (i + 1) (pairsAt rec (left - 1) j)) (sym k)
+                        (stored-next p R (pair p R T₀) s₀ whole s i (here .head) (pairsAt rec (left - 1) (here .next)) to-come s₁ a its-turn g
+                        (pair-reads p R s (x .store) t (held c) row row-full i s₁ a h ∙ ap (λ (o : Outcome). applyAll (o .changes) (parse p R s)) same-outcome));
+                  }

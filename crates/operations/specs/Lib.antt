@@ -1,0 +1,4 @@
+pub mod Got
+pub mod Told
+pub mod Created
+pub mod Mapped

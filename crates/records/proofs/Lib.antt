@@ -1,0 +1,3 @@
+pub mod Framing
+pub mod Walking
+pub mod Held

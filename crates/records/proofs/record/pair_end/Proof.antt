@@ -1,0 +1,34 @@
+-- `records::record::pair_end` meets its contract. Assumes nothing.
+use Rattle.records.proofs.Walking.{step, stop, last}
+use Rattle.records.specs.Record.{pairAt}
+use borrow.Author.Needs.{needs}
+use Rattle.records.proofs.record.pair_end.Statement.{statement}
+use Rattle.records.proofs.record.pair_end.Tie as tie
+
+value-end-requires : tie.Need-value-end-requires
+value-end-requires c κs = search needs
+
+enum-known-e : tie.Need-enum-known-e
+enum-known-e c = search needs
+
+enum-known-x : tie.Need-enum-known-x
+enum-known-x c = search needs
+
+returns : tie.Need-returns
+unfolding pairAt
+returns c = let w1 = c .before .before .before in stop _ _ _ _ (w1 .value-end .ensures) (c .before .x .given .1)
+
+values-end-requires : tie.Need-values-end-requires
+values-end-requires c κs = search needs
+
+returns-2 : tie.Need-returns-2
+unfolding pairAt
+returns-2 c =
+    let w1 = c .before .before .before .before in
+    step _ _ _ _ _ (w1 .value-end .ensures) (c .before .before .e .given .1) (λ v h.
+    last _ _ _ (c .values-end .ensures))
+
+pub pair-end-spec : {M : Type 1} → statement M
+pair-end-spec =
+    tie.close
+    (tie.spec value-end-requires enum-known-e enum-known-x returns values-end-requires returns-2)

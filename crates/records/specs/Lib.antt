@@ -1,0 +1,4 @@
+pub mod Reading
+pub mod Record
+pub mod Walked
+pub mod Frame

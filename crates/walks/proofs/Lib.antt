@@ -1,0 +1,9 @@
+pub mod ByName
+pub mod Shown
+pub mod Showing
+pub mod Scanned
+pub mod NextKey
+pub mod LeastKey
+pub mod KeysCounted
+pub mod Searched
+pub mod NextRow

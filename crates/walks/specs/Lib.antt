@@ -1,0 +1,3 @@
+pub mod Referring
+pub mod Spans
+pub mod Looked
