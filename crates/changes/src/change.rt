@@ -3,11 +3,16 @@
 use laid::catalog;
 use laid::entry;
 use laid::layout;
+use laid::layout::ENTRIES_BYTES;
+use laid::layout::ENTRIES_COUNT;
+use laid::layout::ROWS_BYTES;
+use laid::layout::ROWS_COUNT;
 use laid::row;
 use laid::row::Row;
 use rules::profile::Profile;
 use values::area;
 use values::cell;
+use values::search;
 use values::value;
 use values::value::Cell;
 use values::value::Order;
@@ -34,13 +39,13 @@ fn write_row(part: &mut [u8], p: Profile, name: Text, row: Row)
     requires { ⌜ Coded p × (length (now part) ≡ rowWidth p) × Packed name × ProperRow row × (row .count ≤ p .columns) ⌝ }
     ensures { λ _. ⌜ now (part .exit) ≡ rowBytes (textBytes name) (cellsOf row) ++ drop (nameWidth + row .count * cellWidth) (now (part .entry)) ⌝ }
 {
-    cell::write_name(&mut part[0..25], name);
+    cell::write_name(&mut part[0..cell::NAME_WIDTH], name);
     let cells = row.cells;
     let count = row.count;
     let mut j = 0;
     while j < count {
-        let from = 25 + j * p.cell;
-        let end = from + 26;
+        let from = cell::NAME_WIDTH + j * p.cell;
+        let end = from + cell::CELL_WIDTH;
         let c = cells[j];
         cell::write_cell(&mut part[from..end], c);
         j += 1;
@@ -52,10 +57,16 @@ fn write_entry(part: &mut [u8], name: Text, column: u8, v: Value, key: Value)
     requires { ⌜ (length (now part) ≡ nameWidth + 1 + cellWidth + cellWidth) × ProperEntry name v key ⌝ }
     ensures { λ _. ⌜ now (part .exit) ≡ entryBytes (entryOf name column v key) ⌝ }
 {
-    cell::write_name(&mut part[0..25], name);
-    part[25] = column;
-    cell::write_cell(&mut part[26..52], Cell { value: v });
-    cell::write_cell(&mut part[52..78], Cell { value: key });
+    cell::write_name(&mut part[0..cell::NAME_WIDTH], name);
+    part[search::ENTRY_COLUMN] = column;
+    cell::write_cell(
+        &mut part[search::ENTRY_VALUE..search::ENTRY_KEY],
+        Cell { value: v },
+    );
+    cell::write_cell(
+        &mut part[search::ENTRY_KEY..search::ENTRY_END],
+        Cell { value: key },
+    );
 }
 
 // Puts an index entry in at its place.
@@ -67,7 +78,7 @@ fn add_entry(s: &mut [u8], p: Profile, places: usize, name: Text, column: u8, v:
     let from = layout::entries_at(p, places);
     let width = layout::entry_width(p);
     let most = p.entries * places;
-    area::open_counted(s, 8, 4, from, most, width, i);
+    area::open_counted(s, ENTRIES_COUNT, ENTRIES_BYTES, from, most, width, i);
     let a = from + i * width;
     let e = a + width;
     write_entry(&mut s[a..e], name, column, v, key);
@@ -90,7 +101,7 @@ fn remove_entry(
     let from = layout::entries_at(p, places);
     let width = layout::entry_width(p);
     let most = p.entries * places;
-    area::close_counted(s, 8, 4, from, most, width, i, 1);
+    area::close_counted(s, ENTRIES_COUNT, ENTRIES_BYTES, from, most, width, i, 1);
 }
 
 // The entry of a value that changed: the old one out, the new one in.
@@ -140,7 +151,7 @@ pub fn add_row(s: &mut [u8], p: Profile, places: usize, t: usize, row: Row)
     }
     let from = layout::rows_at(p);
     let width = layout::row_width(p);
-    area::open_counted(s, 6, 2, from, places, width, i);
+    area::open_counted(s, ROWS_COUNT, ROWS_BYTES, from, places, width, i);
     let a = from + i * width;
     let e = a + width;
     write_row(&mut s[a..e], p, name, row);
@@ -168,8 +179,8 @@ pub fn remove_row(s: &mut [u8], p: Profile, places: usize, t: usize, i: usize)
     }
     area::close_counted(
         s,
-        6,
-        2,
+        ROWS_COUNT,
+        ROWS_BYTES,
         layout::rows_at(p),
         places,
         layout::row_width(p),

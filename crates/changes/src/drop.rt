@@ -1,5 +1,9 @@
 // A dropped table's rows and index entries, taken out all at once.
 use laid::layout;
+use laid::layout::ENTRIES_BYTES;
+use laid::layout::ENTRIES_COUNT;
+use laid::layout::ROWS_BYTES;
+use laid::layout::ROWS_COUNT;
 use laid::run;
 use rules::profile::Profile;
 use values::area;
@@ -19,7 +23,7 @@ pub fn drop_rows(s: &mut [u8], p: Profile, places: usize, name: Text)
     let from = layout::rows_at(p);
     let i = search::named_before(&s[from..], count, width, name);
     let n = run::run_from(&s[from..], width, count, i, name);
-    area::close_counted(s, 6, 2, from, places, width, i, n);
+    area::close_counted(s, ROWS_COUNT, ROWS_BYTES, from, places, width, i, n);
 }
 
 // Takes a table's index entries out, all at once.
@@ -32,5 +36,14 @@ pub fn drop_entries(s: &mut [u8], p: Profile, places: usize, name: Text)
     let from = layout::entries_at(p, places);
     let i = search::named_before(&s[from..], count, width, name);
     let n = run::run_from(&s[from..], width, count, i, name);
-    area::close_counted(s, 8, 4, from, p.entries * places, width, i, n);
+    area::close_counted(
+        s,
+        ENTRIES_COUNT,
+        ENTRIES_BYTES,
+        from,
+        p.entries * places,
+        width,
+        i,
+        n,
+    );
 }

@@ -105,10 +105,10 @@ pub fn is_of(rec: &[u8], name: Text, column: u8, v: Value) -> bool
 {
     match search::compare_named(rec, name) {
         Order::Same => {
-            if rec[25] != column {
+            if rec[search::ENTRY_COLUMN] != column {
                 return false;
             }
-            let c = cell::read_cell(&rec[26..]);
+            let c = cell::read_cell(&rec[search::ENTRY_VALUE..]);
             let w = c.value;
             is_same(w, v)
         }
@@ -141,7 +141,7 @@ fn is_other(
     if !update {
         return true;
     }
-    let k = cell::read_cell(&rec[52..]);
+    let k = cell::read_cell(&rec[search::ENTRY_KEY..]);
     let other = k.value;
     !is_same(other, key)
 }

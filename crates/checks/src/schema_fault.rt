@@ -129,7 +129,7 @@ fn column_fault(s: &[u8], p: Profile, places: usize, rec: &[u8], i: usize) -> Re
     ensures { λ r. ⌜ r ≡ kindOfFault (columnFault ((parse p places (now (s .entry))) .tables) (readTable p (now (rec .entry))) i (columnAt p (now (rec .entry)) i)) ⌝ }
 {
     let c = catalog::read_column(rec, p, i);
-    let keyed = i == (rec[25] as usize);
+    let keyed = i == (rec[layout::TABLE_KEY] as usize);
     let k = key_fault(c, keyed);
     if !answer::is_accepted(k) {
         return k;
@@ -166,7 +166,7 @@ pub fn repeat_fault(rec: &[u8], p: Profile) -> Fault
     requires { ⌜ TableBytes p (now rec) ⌝ }
     ensures { λ r. ⌜ faultOf r ≡ repeatFault [] 0 ((readTable p (now (rec .entry))) .columns) ⌝ }
 {
-    let count = rec[26] as usize;
+    let count = rec[layout::TABLE_COUNT] as usize;
     let mut i = 0;
     while i < count {
         if repeats(rec, p, i) {
@@ -188,7 +188,7 @@ pub fn columns_fault(s: &[u8], p: Profile, places: usize, rec: &[u8]) -> Fault
     requires { ⌜ Catalog p places (now s) × TableBytes p (now rec) ⌝ }
     ensures { λ r. ⌜ faultOf r ≡ columnsFault ((parse p places (now (s .entry))) .tables) (readTable p (now (rec .entry))) 0 ((readTable p (now (rec .entry))) .columns) ⌝ }
 {
-    let count = rec[26] as usize;
+    let count = rec[layout::TABLE_COUNT] as usize;
     let mut i = 0;
     while i < count {
         let k = column_fault(s, p, places, rec, i);

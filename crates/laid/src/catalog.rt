@@ -48,19 +48,19 @@ pub fn read_column(rec: &[u8], p: Profile, i: usize) -> Column
     requires { ⌜ TableBytes p (now rec) × (i < p .columns) ⌝ }
     ensures { λ r. ⌜ ColumnRead p (now (rec .entry)) i r ⌝ }
 {
-    let from = 27 + i * layout::column_width(p);
+    let from = layout::TABLE_COLUMNS + i * layout::column_width(p);
     let col = &rec[from..];
-    let flags = col[26];
+    let flags = col[layout::COLUMN_FLAGS];
     Column {
         name: cell::read_name(col),
-        kind: col[25],
-        nullable: flag(flags, 1),
-        unique: flag(flags, 4),
-        index: flag(flags, 8),
-        defaulted: flag(flags, 2),
-        default: cell::read_cell(&col[27..]),
-        references: flag(flags, 16),
-        reference: cell::read_name(&col[53..]),
+        kind: col[layout::COLUMN_KIND],
+        nullable: flag(flags, layout::NULLABLE),
+        unique: flag(flags, layout::UNIQUE),
+        index: flag(flags, layout::INDEXED),
+        defaulted: flag(flags, layout::DEFAULTED),
+        default: cell::read_cell(&col[layout::COLUMN_DEFAULT..]),
+        references: flag(flags, layout::REFERENCES),
+        reference: cell::read_name(&col[layout::COLUMN_REFERENCE..]),
     }
 }
 
@@ -69,12 +69,12 @@ pub fn key_kind(rec: &[u8], p: Profile) -> u8
     requires { ⌜ TableBytes p (now rec) ⌝ }
     ensures { λ r. ⌜ r ≡ keyKind (readTable p (now (rec .entry))) ⌝ }
 {
-    let key = rec[25] as usize;
-    let count = rec[26] as usize;
+    let key = rec[layout::TABLE_KEY] as usize;
+    let count = rec[layout::TABLE_COUNT] as usize;
     if count <= key {
         return 0;
     }
-    let at = 27 + key * layout::column_width(p) + 25;
+    let at = layout::TABLE_COLUMNS + key * layout::column_width(p) + layout::COLUMN_KIND;
     rec[at]
 }
 
@@ -85,7 +85,7 @@ pub fn get_table(s: &[u8], p: Profile, places: usize, name: Text) -> Found
 {
     let count = layout::table_count(s);
     let width = layout::schema_width(p);
-    let i = search::named_before(&s[12..], count, width, name);
+    let i = search::named_before(&s[layout::HEADER_WIDTH..], count, width, name);
     if count <= i {
         return Found::Nothing;
     }
@@ -100,7 +100,7 @@ pub fn key_column(rec: &[u8]) -> usize
     requires { ⌜ 26 ≤ length (now rec) ⌝ }
     ensures { λ r. ⌜ r ≡ getD (now (rec .entry)) nameWidth 0 ⌝ }
 {
-    rec[25] as usize
+    rec[layout::TABLE_KEY] as usize
 }
 
 // How many columns a table record has.
@@ -108,5 +108,5 @@ pub fn column_count(rec: &[u8]) -> usize
     requires { ⌜ 27 ≤ length (now rec) ⌝ }
     ensures { λ r. ⌜ r ≡ getD (now (rec .entry)) (nameWidth + 1) 0 ⌝ }
 {
-    rec[26] as usize
+    rec[layout::TABLE_COUNT] as usize
 }

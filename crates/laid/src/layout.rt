@@ -1,6 +1,8 @@
 // Where things stand in a store: widths and offsets of a profile, the header's counts, records by place.
 use rules::profile::Profile;
 use values::area;
+use values::cell;
+use values::search;
 ghost use mathlib.Core.Path.{_≡_};
 ghost use mathlib.Core.List.{[]};
 ghost use Prim.Native.Nat.{_≤_, _<_};
@@ -10,32 +12,85 @@ ghost use Rattle.rules.specs.Profile.{headerWidth, columnWidth, schemaWidth, ro
 ghost use Rattle.rules.specs.Layout.{tablesCount, rowsCount, entriesCount, lists};
 ghost use Rattle.laid.specs.Store.{Inside};
 
+// The header: the store's length, the version, and the counts of tables, rows and index entries, each of so many bytes.
+pub const LENGTH_BYTES: usize = 4;
+
+pub const VERSION: usize = LENGTH_BYTES;
+
+pub const TABLES_COUNT: usize = VERSION + 1;
+
+pub const TABLES_BYTES: usize = 1;
+
+pub const ROWS_COUNT: usize = TABLES_COUNT + TABLES_BYTES;
+
+pub const ROWS_BYTES: usize = 2;
+
+pub const ENTRIES_COUNT: usize = ROWS_COUNT + ROWS_BYTES;
+
+pub const ENTRIES_BYTES: usize = 4;
+
+pub const HEADER_WIDTH: usize = ENTRIES_COUNT + ENTRIES_BYTES;
+
+// A table's record: its name, the key column, how many columns, the columns.
+pub const TABLE_KEY: usize = cell::NAME_WIDTH;
+
+pub const TABLE_COUNT: usize = TABLE_KEY + 1;
+
+pub const TABLE_COLUMNS: usize = TABLE_COUNT + 1;
+
+// A column in it: its name, the kind's number, the flags, the default, the table referred to.
+pub const COLUMN_KIND: usize = cell::NAME_WIDTH;
+
+pub const COLUMN_FLAGS: usize = COLUMN_KIND + 1;
+
+pub const COLUMN_DEFAULT: usize = COLUMN_FLAGS + 1;
+
+pub const COLUMN_REFERENCE: usize = COLUMN_DEFAULT + cell::CELL_WIDTH;
+
+pub const COLUMN_END: usize = COLUMN_REFERENCE + cell::NAME_WIDTH;
+
+// The flags of a column.
+pub const NULLABLE: u8 = 1;
+
+pub const DEFAULTED: u8 = 2;
+
+pub const UNIQUE: u8 = 4;
+
+pub const INDEXED: u8 = 8;
+
+pub const REFERENCES: u8 = 16;
+
+pub const FLAGS_MOST: u8 = 31;
+
+// What a column has besides its default.
+const COLUMN_REST: usize = COLUMN_DEFAULT + cell::NAME_WIDTH;
+
 pub fn column_width(p: Profile) -> usize
     requires { ⌜ Known p ⌝ }
     ensures { λ r. ⌜ r ≡ columnWidth p ⌝ }
 {
-    52 + p.cell
+    COLUMN_REST + p.cell
 }
 
 pub fn schema_width(p: Profile) -> usize
     requires { ⌜ Known p ⌝ }
     ensures { λ r. ⌜ r ≡ schemaWidth p ⌝ }
 {
-    27 + p.columns * column_width(p)
+    TABLE_COLUMNS + p.columns * column_width(p)
 }
 
 pub fn row_width(p: Profile) -> usize
     requires { ⌜ Known p ⌝ }
     ensures { λ r. ⌜ r ≡ rowWidth p ⌝ }
 {
-    25 + p.columns * p.cell
+    cell::NAME_WIDTH + p.columns * p.cell
 }
 
 pub fn entry_width(p: Profile) -> usize
     requires { ⌜ Known p ⌝ }
     ensures { λ r. ⌜ r ≡ entryWidth p ⌝ }
 {
-    26 + p.cell + p.cell
+    search::ENTRY_VALUE + p.cell + p.cell
 }
 
 // Where the rows start.
@@ -43,7 +98,7 @@ pub fn rows_at(p: Profile) -> usize
     requires { ⌜ Known p ⌝ }
     ensures { λ r. ⌜ r ≡ rowsAt p ⌝ }
 {
-    12 + p.tables * schema_width(p)
+    HEADER_WIDTH + p.tables * schema_width(p)
 }
 
 // Where the index entries of a store with this many row places start.
@@ -73,21 +128,21 @@ pub fn table_count(s: &[u8]) -> usize
     requires { ⌜ headerWidth ≤ length (now s) ⌝ }
     ensures { λ r. ⌜ r ≡ countAt tablesCount 1 (now (s .entry)) ⌝ }
 {
-    area::count_at(s, 5, 1)
+    area::count_at(s, TABLES_COUNT, TABLES_BYTES)
 }
 
 pub fn row_count(s: &[u8]) -> usize
     requires { ⌜ headerWidth ≤ length (now s) ⌝ }
     ensures { λ r. ⌜ r ≡ countAt rowsCount 2 (now (s .entry)) ⌝ }
 {
-    area::count_at(s, 6, 2)
+    area::count_at(s, ROWS_COUNT, ROWS_BYTES)
 }
 
 pub fn entry_count(s: &[u8]) -> usize
     requires { ⌜ headerWidth ≤ length (now s) ⌝ }
     ensures { λ r. ⌜ r ≡ countAt entriesCount 4 (now (s .entry)) ⌝ }
 {
-    area::count_at(s, 8, 4)
+    area::count_at(s, ENTRIES_COUNT, ENTRIES_BYTES)
 }
 
 // The record of the table at place i.
@@ -96,7 +151,7 @@ pub fn table_record(s: &[u8], p: Profile, places: usize, i: usize) -> &[u8]
     requires { ⌜ i < length ((lists p places (now s)) .schemas) ⌝ }
     ensures { λ r. ⌜ now r ≡ getD ((lists p places (now (s .entry))) .schemas) i [] ⌝ }
 {
-    area::record_at(s, 12, schema_width(p), i)
+    area::record_at(s, HEADER_WIDTH, schema_width(p), i)
 }
 
 // The record of the row at place i.

@@ -33,7 +33,7 @@ pub fn cell_in(rec: &[u8], p: Profile, j: usize) -> Cell
     requires { ⌜ Coded p × (length (now rec) ≡ rowWidth p) × (j < p .columns) ⌝ }
     ensures { λ r. ⌜ (held r ≡ readValue (drop (nameWidth + j * p .cell) (now (rec .entry)))) × ProperCell r ⌝ }
 {
-    let from = 25 + j * p.cell;
+    let from = cell::NAME_WIDTH + j * p.cell;
     cell::read_cell(&rec[from..])
 }
 
@@ -51,7 +51,7 @@ pub fn rank_of(s: &[u8], p: Profile, places: usize, name: Text, column: usize, k
     ensures { λ r. ⌜ r ≡ countOf (λ x. isLt (cmpRow x (keyed (textBytes name) (meaning key)))) ((parse p places (now (s .entry))) .rows) ⌝ }
 {
     let from = layout::rows_at(p);
-    let at = 25 + column * p.cell;
+    let at = cell::NAME_WIDTH + column * p.cell;
     search::keyed_before(
         &s[from..],
         layout::row_count(s),
@@ -71,7 +71,7 @@ pub fn find_row(s: &[u8], p: Profile, places: usize, name: Text, column: usize, 
     if layout::row_count(s) <= i {
         return Found::Nothing;
     }
-    let at = 25 + column * p.cell;
+    let at = cell::NAME_WIDTH + column * p.cell;
     match search::compare_keyed(layout::row_record(s, p, places, i), name, at, key) {
         Order::Same => Found::At(i),
         _ => Found::Nothing,

@@ -32,13 +32,16 @@ fn write_column(part: &mut [u8], p: Profile, rec: &[u8], at: usize) -> usize
         return at;
     };
     let flags = record::byte_of(rec, next + 1);
-    cell::write_name(&mut part[0..25], name);
-    part[25] = record::byte_of(rec, next);
-    part[26] = flags;
+    cell::write_name(&mut part[0..cell::NAME_WIDTH], name);
+    part[layout::COLUMN_KIND] = record::byte_of(rec, next);
+    part[layout::COLUMN_FLAGS] = flags;
     let mut end = next + 2;
     if flags / 2 % 2 == 1 {
         if let ReadCell::Got { cell: c, next: e } = read::value_at(rec, end) {
-            cell::write_cell(&mut part[27..53], c);
+            cell::write_cell(
+                &mut part[layout::COLUMN_DEFAULT..layout::COLUMN_REFERENCE],
+                c,
+            );
             end = e;
         }
     }
@@ -47,7 +50,10 @@ fn write_column(part: &mut [u8], p: Profile, rec: &[u8], at: usize) -> usize
             name: target,
             next: e,
         } = read::name_at(rec, end) {
-            cell::write_name(&mut part[53..78], target);
+            cell::write_name(
+                &mut part[layout::COLUMN_REFERENCE..layout::COLUMN_END],
+                target,
+            );
             end = e;
         }
     }
@@ -62,13 +68,13 @@ fn write_schema(out: &mut [u8], p: Profile, rec: &[u8], at: usize)
     let ReadName::Named { name, next } = read::name_at(rec, at) else {
         return;
     };
-    cell::write_name(&mut out[0..25], name);
-    out[25] = record::byte_of(rec, next);
+    cell::write_name(&mut out[0..cell::NAME_WIDTH], name);
+    out[layout::TABLE_KEY] = record::byte_of(rec, next);
     let count = record::byte_of(rec, next + 1);
-    out[26] = count;
+    out[layout::TABLE_COUNT] = count;
     let width = layout::column_width(p);
     let mut left = count;
-    let mut from = 27;
+    let mut from = layout::TABLE_COLUMNS;
     let mut q = next + 2;
     while 0 < left {
         let to = from + width;

@@ -14,6 +14,9 @@ pub enum Framed {
     Done,
 }
 
+// What a record's two length bytes may say at the most.
+const RECORD_MOST: usize = 4096;
+
 // What comes next; `ended` says that the input has no more bytes than these.
 pub fn next_record(s: &[u8], ended: bool) -> Framed
     ensures { λ r. ⌜ r ≡ framed (now (s .entry)) ended ⌝ }
@@ -35,7 +38,7 @@ pub fn next_record(s: &[u8], ended: bool) -> Framed
     if long < 2 {
         return Framed::Skip(2 + long);
     }
-    if 4096 < long {
+    if RECORD_MOST < long {
         return Framed::Skip(2 + long);
     }
     if n < 2 + long {

@@ -125,7 +125,7 @@ fn run(
     let mut count = 0;
     let mut written = 0;
     let mut lines = from;
-    while 412 <= out.len() - written {
+    while line::ROW_MOST <= out.len() - written {
         match frame::next_record(&input[taken..], ended) {
             Framed::Whole(n) => {
                 let a = taken + 2;
@@ -216,7 +216,7 @@ pub fn many(s: &mut [u8], input: &[u8], ended: bool, from: usize, out: &mut [u8]
 {
     if !soundness::is_sound(s) {
         let mut written = 0;
-        if 66 <= out.len() {
+        if line::ANSWER_MOST <= out.len() {
             written = line::put_answer(out, answer::refused(Refusal::StoreUnsound, 0));
         }
         return Ran {

@@ -17,6 +17,11 @@ ghost use Rattle.laid.specs.Store.{LaidStore};
 ghost use Rattle.laid.specs.Row.{rowIn};
 ghost use Rattle.requests.specs.Lines.{space, newline, rowLine, rowMost, answerLine, answerMost};
 
+// The longest line of an answer, and of a row.
+pub const ANSWER_MOST: usize = 66;
+
+pub const ROW_MOST: usize = 412;
+
 // A space and a number from a position on; returns where they end.
 fn put_spaced(out: &mut [u8], from: usize, m: u64) -> usize
     requires { ⌜ from + 21 ≤ length (now out) ⌝ }

@@ -255,14 +255,21 @@ pub fn put_lines(
     requires { ⌜ said a ≡ (outcomeOf p places (parse p places (now s)) (requestOf (now rec) p)) .reply ⌝ }
     ensures { λ r. ⌜ Wrote (outcomeOf p places (parse p places (now (s .entry))) (requestOf (now (rec .entry)) p)) from (now (out .entry)) (now (out .exit)) r ⌝ }
 {
-    let mut line = [0u8; 412];
+    let mut line = [0u8; line::ROW_MOST];
     let mut written = 0;
     let mut lines = 0;
     let mut at = 0;
     let mut key = Cell { value: Value::Null };
     let mut more = true;
     while more {
-        let x = put_next(s, p, places, rec, Place { at, key }, &mut line[0..412]);
+        let x = put_next(
+            s,
+            p,
+            places,
+            rec,
+            Place { at, key },
+            &mut line[0..line::ROW_MOST],
+        );
         let n = x.count;
         at = x.at;
         key = x.key;
@@ -284,7 +291,7 @@ pub fn put_lines(
             lines += 1;
         }
     }
-    let n = line::put_answer(&mut line[0..412], a);
+    let n = line::put_answer(&mut line[0..line::ROW_MOST], a);
     if out.len() - written < n {
         return Put {
             written,

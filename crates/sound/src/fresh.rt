@@ -13,6 +13,9 @@ ghost use Rattle.rules.specs.Sound.{rightLength};
 ghost use Rattle.laid.specs.Store.{Coded};
 ghost use Rattle.sound.specs.Fresh.{Freshened};
 
+// Row places at the most.
+const PLACES_MOST: usize = 4096;
+
 // How many row places a buffer has, if it is a store's.
 pub fn places_of(s: &[u8], p: Profile) -> usize
     requires { ⌜ Coded p ⌝ }
@@ -34,7 +37,7 @@ pub fn right_length(s: &[u8], p: Profile) -> bool
     if places < 1 {
         return false;
     }
-    if 4096 < places {
+    if PLACES_MOST < places {
         return false;
     }
     s.len() == layout::store_length(p, places)
@@ -50,8 +53,8 @@ pub fn fresh_of(s: &mut [u8], p: Profile) -> Answer
     }
     let n = s.len();
     bytes::clear(s, 0, n);
-    bytes::put(&mut s[0..4], n as u64);
-    s[4] = p.version;
+    bytes::put(&mut s[0..layout::LENGTH_BYTES], n as u64);
+    s[layout::VERSION] = p.version;
     answer::accepted(0)
 }
 

@@ -34,13 +34,13 @@ fn is_entry(rec: &[u8], p: Profile) -> bool
     requires { ⌜ Coded p × (length (now rec) ≡ entryWidth p) ⌝ }
     ensures { λ r. ⌜ r ≡ isEntry p (now (rec .entry)) ⌝ }
 {
-    if !cell::is_name_cell(&rec[0..25]) {
+    if !cell::is_name_cell(&rec[0..cell::NAME_WIDTH]) {
         return false;
     }
-    if !cell::is_cell(&rec[26..52]) {
+    if !cell::is_cell(&rec[search::ENTRY_VALUE..search::ENTRY_KEY]) {
         return false;
     }
-    cell::is_cell(&rec[52..78])
+    cell::is_cell(&rec[search::ENTRY_KEY..search::ENTRY_END])
 }
 
 // Whether every index entry is an entry's record.
@@ -65,11 +65,11 @@ fn is_entry_before(a: &[u8], b: &[u8], p: Profile) -> bool
     ensures { λ r. ⌜ r ≡ isLt (cmpEntry (readEntry p (now (a .entry))) (readEntry p (now (b .entry)))) ⌝ }
 {
     let name = cell::read_name(b);
-    let first = cell::read_cell(&b[26..52]);
+    let first = cell::read_cell(&b[search::ENTRY_VALUE..search::ENTRY_KEY]);
     let v = first.value;
-    let second = cell::read_cell(&b[52..78]);
+    let second = cell::read_cell(&b[search::ENTRY_KEY..search::ENTRY_END]);
     let key = second.value;
-    match search::compare_entered(a, name, b[25], v, key) {
+    match search::compare_entered(a, name, b[search::ENTRY_COLUMN], v, key) {
         Order::Less => true,
         _ => false,
     }
@@ -108,7 +108,7 @@ fn indexed_columns(rec: &[u8], p: Profile) -> usize
     requires { ⌜ TableBytes p (now rec) ⌝ }
     ensures { λ r. ⌜ (r ≡ length (keep (λ (c : S.Column). c .index) ((readTable p (now (rec .entry))) .columns))) × (r ≤ 255) ⌝ }
 {
-    let count = rec[26] as usize;
+    let count = rec[layout::TABLE_COUNT] as usize;
     let mut n: usize = 0;
     let mut i = 0;
     while i < count {
@@ -152,10 +152,10 @@ fn is_alike(rec: &[u8], p: Profile, name: Text, column: u8, v: Value) -> bool
 {
     match search::compare_named(rec, name) {
         Order::Same => {
-            if rec[25] != column {
+            if rec[search::ENTRY_COLUMN] != column {
                 return false;
             }
-            let c = cell::read_cell(&rec[26..52]);
+            let c = cell::read_cell(&rec[search::ENTRY_VALUE..search::ENTRY_KEY]);
             let w = c.value;
             match value::compare(w, v) {
                 Order::Same => true,
@@ -243,7 +243,7 @@ fn are_cells_entered(s: &[u8], p: Profile, places: usize, row: &[u8], rec: &[u8]
     let at = row_test::key_at(rec, p);
     let k = cell::read_cell(&row[at..]);
     let key = k.value;
-    let count = rec[26];
+    let count = rec[layout::TABLE_COUNT];
     let mut i: u8 = 0;
     while i < count {
         let j = i as usize;

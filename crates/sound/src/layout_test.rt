@@ -17,10 +17,10 @@ fn is_headed(s: &[u8], p: Profile, places: usize) -> bool
     requires { ⌜ Coded p × (places ≤ placesMost) × (length (now s) ≡ storeLength p places) ⌝ }
     ensures { λ r. ⌜ r ≡ headed p places (now (s .entry)) ⌝ }
 {
-    if area::count_at(s, 0, 4) != layout::store_length(p, places) {
+    if area::count_at(s, 0, layout::LENGTH_BYTES) != layout::store_length(p, places) {
         return false;
     }
-    if s[4] != p.version {
+    if s[layout::VERSION] != p.version {
         return false;
     }
     if p.tables < layout::table_count(s) {
@@ -52,7 +52,13 @@ pub fn is_laid_out(s: &[u8], p: Profile, places: usize) -> bool
         return false;
     }
     let tables = layout::table_count(s);
-    if !is_spare(s, 12, layout::schema_width(p), p.tables, tables) {
+    if !is_spare(
+        s,
+        layout::HEADER_WIDTH,
+        layout::schema_width(p),
+        p.tables,
+        tables,
+    ) {
         return false;
     }
     let rows = layout::row_count(s);

@@ -64,7 +64,7 @@ fn are_held(s: &[u8], p: Profile, places: usize, row: &[u8], rec: &[u8]) -> bool
     requires { ⌜ Tabled p places (now s) × TableBytes p (now rec) × (length (now row) ≡ rowWidth p) ⌝ }
     ensures { λ r. ⌜ r ≡ everyCell (λ i c v. Sound.held ((parse p places (now (s .entry))) .rows) (c .reference) v) 0 ((readTable p (now (rec .entry))) .columns) (cellsIn (length ((readTable p (now (rec .entry))) .columns)) (now (row .entry))) ⌝ }
 {
-    let count = rec[26] as usize;
+    let count = rec[layout::TABLE_COUNT] as usize;
     let mut i = 0;
     while i < count {
         let c = catalog::read_column(rec, p, i);

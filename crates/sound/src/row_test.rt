@@ -35,8 +35,8 @@ fn are_cells(row: &[u8], p: Profile, count: usize) -> bool
 {
     let mut i = 0;
     while i < count {
-        let from = 25 + i * 26;
-        let to = from + 26;
+        let from = cell::NAME_WIDTH + i * cell::CELL_WIDTH;
+        let to = from + cell::CELL_WIDTH;
         if !cell::is_cell(&row[from..to]) {
             return false;
         }
@@ -50,7 +50,7 @@ pub fn cell_at(row: &[u8], i: usize) -> Cell
     requires { ⌜ 25 + i * 26 + 26 ≤ length (now row) ⌝ }
     ensures { λ r. ⌜ (held r ≡ readValue (drop (25 + i * 26) (now (row .entry)))) × ProperCell r ⌝ }
 {
-    let from = 25 + i * 26;
+    let from = cell::NAME_WIDTH + i * cell::CELL_WIDTH;
     cell::read_cell(&row[from..])
 }
 
@@ -69,7 +69,7 @@ fn are_fitting(row: &[u8], rec: &[u8], p: Profile) -> bool
     requires { ⌜ TableBytes p (now rec) × (length (now row) ≡ rowWidth p) ⌝ }
     ensures { λ r. ⌜ r ≡ everyCell fitting 0 ((readTable p (now (rec .entry))) .columns) (cellsIn (length ((readTable p (now (rec .entry))) .columns)) (now (row .entry))) ⌝ }
 {
-    let count = rec[26] as usize;
+    let count = rec[layout::TABLE_COUNT] as usize;
     let mut i = 0;
     while i < count {
         let c = catalog::read_column(rec, p, i);
@@ -88,7 +88,7 @@ pub fn key_at(rec: &[u8], p: Profile) -> usize
     requires { ⌜ TableBytes p (now rec) × ((readTable p (now rec)) .key < length ((readTable p (now rec)) .columns)) ⌝ }
     ensures { λ r. ⌜ (r ≡ 25 + (readTable p (now (rec .entry))) .key * 26) × (r + 26 ≤ rowWidth p) ⌝ }
 {
-    25 + (rec[25] as usize) * 26
+    cell::NAME_WIDTH + (rec[layout::TABLE_KEY] as usize) * cell::CELL_WIDTH
 }
 
 // Whether what follows the name fits the table.
@@ -96,11 +96,11 @@ fn fits_table(row: &[u8], rec: &[u8], p: Profile) -> bool
     requires { ⌜ TableBytes p (now rec) × ((readTable p (now rec)) .key < length ((readTable p (now rec)) .columns)) × (length (now row) ≡ rowWidth p) ⌝ }
     ensures { λ r. ⌜ r ≡ fitsTable (readTable p (now (rec .entry))) (now (row .entry)) ⌝ }
 {
-    let count = rec[26] as usize;
+    let count = rec[layout::TABLE_COUNT] as usize;
     if !are_cells(row, p, count) {
         return false;
     }
-    let used = 25 + count * 26;
+    let used = cell::NAME_WIDTH + count * cell::CELL_WIDTH;
     if !bytes::all_zero(&row[used..]) {
         return false;
     }
@@ -121,7 +121,7 @@ fn is_row(s: &[u8], p: Profile, places: usize, row: &[u8]) -> bool
     let Found::At(i) = catalog::get_table(s, p, places, cell::read_name(row)) else {
         return false;
     };
-    if !cell::is_name_cell(&row[0..25]) {
+    if !cell::is_name_cell(&row[0..cell::NAME_WIDTH]) {
         return false;
     }
     fits_table(row, layout::table_record(s, p, places, i), p)

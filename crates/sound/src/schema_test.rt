@@ -52,20 +52,26 @@ fn is_column(col: &[u8], p: Profile) -> bool
     requires { ⌜ Coded p × (length (now col) ≡ columnWidth p) ⌝ }
     ensures { λ r. ⌜ r ≡ isColumn p (now (col .entry)) ⌝ }
 {
-    if !cell::is_name_cell(&col[0..25]) {
+    if !cell::is_name_cell(&col[0..cell::NAME_WIDTH]) {
         return false;
     }
-    let flags = col[26];
-    if 31 < flags {
+    let flags = col[layout::COLUMN_FLAGS];
+    if layout::FLAGS_MOST < flags {
         return false;
     }
-    if !is_default(&col[27..53], flags / 2 % 2 == 1) {
+    if !is_default(
+        &col[layout::COLUMN_DEFAULT..layout::COLUMN_REFERENCE],
+        flags / layout::DEFAULTED % 2 == 1,
+    ) {
         return false;
     }
-    if !is_reference(&col[53..78], flags / 16 % 2 == 1) {
+    if !is_reference(
+        &col[layout::COLUMN_REFERENCE..layout::COLUMN_END],
+        flags / layout::REFERENCES % 2 == 1,
+    ) {
         return false;
     }
-    let kind = col[25];
+    let kind = col[layout::COLUMN_KIND];
     if kind < 1 {
         return false;
     }
@@ -80,7 +86,7 @@ fn are_columns(rec: &[u8], p: Profile, count: usize) -> bool
     let width = layout::column_width(p);
     let mut i = 0;
     while i < count {
-        let from = 27 + i * width;
+        let from = layout::TABLE_COLUMNS + i * width;
         let to = from + width;
         if !is_column(&rec[from..to], p) {
             return false;
@@ -95,17 +101,17 @@ fn is_table(rec: &[u8], p: Profile) -> bool
     requires { ⌜ Coded p × (length (now rec) ≡ schemaWidth p) ⌝ }
     ensures { λ r. ⌜ r ≡ isTable p (now (rec .entry)) ⌝ }
 {
-    if !cell::is_name_cell(&rec[0..25]) {
+    if !cell::is_name_cell(&rec[0..cell::NAME_WIDTH]) {
         return false;
     }
-    let count = rec[26] as usize;
+    let count = rec[layout::TABLE_COUNT] as usize;
     if p.columns < count {
         return false;
     }
     if !are_columns(rec, p, count) {
         return false;
     }
-    let used = 27 + count * layout::column_width(p);
+    let used = layout::TABLE_COLUMNS + count * layout::column_width(p);
     bytes::all_zero(&rec[used..])
 }
 

@@ -1,10 +1,13 @@
-// The catalog (local.rs: `create_table`, `drop_table`, `list_tables`, `table_references`).
+// The catalog (local.rs: `create_table`, `drop_table`, `get_table`, `list_tables`, `table_references`).
 use super::schema;
 use changes::drop;
 use laid::catalog;
 use laid::catalog::Found;
 pub use laid::catalog::get_table;
 use laid::layout;
+use laid::layout::HEADER_WIDTH;
+use laid::layout::TABLES_BYTES;
+use laid::layout::TABLES_COUNT;
 use rules::answer;
 use rules::answer::Answer;
 use rules::answer::Refusal;
@@ -61,9 +64,17 @@ pub fn create_table(s: &mut [u8], p: Profile, places: usize, rec: &[u8]) -> Answ
         return answer::refused(Refusal::TablesFull, 0);
     }
     let width = layout::schema_width(p);
-    let i = search::named_before(&s[12..], count, width, name);
-    area::open_counted(s, 5, 1, 12, p.tables, width, i);
-    area::write_record(s, 12, i, rec);
+    let i = search::named_before(&s[HEADER_WIDTH..], count, width, name);
+    area::open_counted(
+        s,
+        TABLES_COUNT,
+        TABLES_BYTES,
+        HEADER_WIDTH,
+        p.tables,
+        width,
+        i,
+    );
+    area::write_record(s, HEADER_WIDTH, i, rec);
     answer::accepted(0)
 }
 
@@ -72,7 +83,7 @@ fn first_reference(rec: &[u8], p: Profile, name: Text) -> Found
     requires { ⌜ TableBytes p (now rec) × Packed name ⌝ }
     ensures { λ r. ⌜ foundAt r ≡ firstReference (textBytes name) 0 ((readTable p (now (rec .entry))) .columns) ⌝ }
 {
-    let count = rec[26] as usize;
+    let count = rec[layout::TABLE_COUNT] as usize;
     let mut j = 0;
     while j < count {
         let c = catalog::read_column(rec, p, j);
@@ -143,6 +154,15 @@ pub fn drop_table(s: &mut [u8], p: Profile, places: usize, name: Text, lenient: 
     }
     drop::drop_entries(s, p, places, name);
     drop::drop_rows(s, p, places, name);
-    area::close_counted(s, 5, 1, 12, p.tables, layout::schema_width(p), i, 1);
+    area::close_counted(
+        s,
+        TABLES_COUNT,
+        TABLES_BYTES,
+        HEADER_WIDTH,
+        p.tables,
+        layout::schema_width(p),
+        i,
+        1,
+    );
     answer::accepted(1)
 }

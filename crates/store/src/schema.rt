@@ -31,14 +31,14 @@ pub fn validate(s: &[u8], p: Profile, places: usize, rec: &[u8]) -> Fault
             at: 0,
         };
     }
-    let count = rec[26] as usize;
+    let count = rec[layout::TABLE_COUNT] as usize;
     if count == 0 {
         return Fault {
             kind: Refusal::NoColumns,
             at: 0,
         };
     }
-    if count <= (rec[25] as usize) {
+    if count <= (rec[layout::TABLE_KEY] as usize) {
         return Fault {
             kind: Refusal::KeyColumnOutOfRange,
             at: 0,

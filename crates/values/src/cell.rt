@@ -13,6 +13,15 @@ ghost use Rattle.values.specs.Value.{textMost};
 ghost use Rattle.values.specs.Meaning.{textBytes, Packed, held, ProperCell};
 ghost use Rattle.values.specs.Cell.{nameWidth, nameCell, readName, isNameCell, cellWidth, valueCell, readValue, isCell};
 
+// A text's bytes at the most.
+pub const TEXT_MOST: usize = 24;
+
+// A name's cell: its length, and a text's bytes.
+pub const NAME_WIDTH: usize = TEXT_MOST + 1;
+
+// A value's cell: the kind's number, and its content.
+pub const CELL_WIDTH: usize = NAME_WIDTH + 1;
+
 // Eight bytes of s from k on as a word, zeros past the end.
 fn word_at(s: &[u8], k: usize) -> u64
     requires { ⌜ k ≤ 16 ⌝ }
@@ -55,7 +64,7 @@ pub fn write_name(out: &mut [u8], t: Text)
     out[0] = t.len;
     bytes::put(&mut out[1..9], t.a);
     bytes::put(&mut out[9..17], t.b);
-    bytes::put(&mut out[17..25], t.c);
+    bytes::put(&mut out[17..NAME_WIDTH], t.c);
 }
 
 // The name at the front of s: a length above 24 counts as 24, and bytes past the length are not looked at.
@@ -64,8 +73,8 @@ pub fn read_name(s: &[u8]) -> Text
     ensures { λ r. ⌜ (textBytes r ≡ readName (now (s .entry))) × Packed r ⌝ }
 {
     let n = s[0] as usize;
-    if 24 < n {
-        return text_of(&s[1..25]);
+    if TEXT_MOST < n {
+        return text_of(&s[1..NAME_WIDTH]);
     }
     let end = n + 1;
     text_of(&s[1..end])
@@ -89,7 +98,7 @@ fn write_word(out: &mut [u8], kind: u8, w: u64)
     out[0] = kind;
     out[1] = 0;
     bytes::put(&mut out[2..10], w);
-    bytes::clear(out, 10, 26);
+    bytes::clear(out, 10, CELL_WIDTH);
 }
 
 pub fn write_cell(out: &mut [u8], c: Cell)
@@ -110,7 +119,7 @@ pub fn write_cell(out: &mut [u8], c: Cell)
         Value::Float(x) => write_word(out, 3, value::float_bits(x)),
         Value::Text(t) => {
             out[0] = 4;
-            write_name(&mut out[1..26], t)
+            write_name(&mut out[1..CELL_WIDTH], t)
         }
     }
 }
@@ -142,7 +151,7 @@ pub fn read_cell(s: &[u8]) -> Cell
         };
     }
     Cell {
-        value: Value::Text(read_name(&s[1..26])),
+        value: Value::Text(read_name(&s[1..CELL_WIDTH])),
     }
 }
 

@@ -32,7 +32,7 @@ pub fn name_at(s: &[u8], at: usize) -> ReadName
         return ReadName::Bad(at);
     }
     let n = s[at] as usize;
-    if 24 < n {
+    if cell::TEXT_MOST < n {
         return ReadName::Bad(at);
     }
     let b = at + 1;

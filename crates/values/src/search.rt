@@ -15,6 +15,15 @@ ghost use Rattle.values.specs.Records.{records};
 ghost use Rattle.values.specs.Sorted.{countOf};
 ghost use Rattle.values.specs.Search.{cmpNamed, cmpKeyed, cmpContent, cmpEntered, SearchIn};
 
+// An index entry's record: the table's name, the column's number, the value, the row's key.
+pub const ENTRY_COLUMN: usize = cell::NAME_WIDTH;
+
+pub const ENTRY_VALUE: usize = ENTRY_COLUMN + 1;
+
+pub const ENTRY_KEY: usize = ENTRY_VALUE + cell::CELL_WIDTH;
+
+pub const ENTRY_END: usize = ENTRY_KEY + cell::CELL_WIDTH;
+
 // A record that starts with a name.
 pub fn compare_named(rec: &[u8], name: Text) -> Order
     requires { ⌜ (nameWidth ≤ length (now rec)) × Packed name ⌝ }
@@ -44,17 +53,17 @@ fn compare_content(rec: &[u8], column: u8, v: Value, key: Value) -> Order
     requires { ⌜ (nameWidth + 1 + cellWidth + cellWidth ≤ length (now rec)) × Proper v × Proper key ⌝ }
     ensures { λ r. ⌜ ordering r ≡ cmpContent cellWidth (now (rec .entry)) column (meaning v) (meaning key) ⌝ }
 {
-    match value::compare_words(bytes::wide(rec[25]), bytes::wide(column)) {
+    match value::compare_words(bytes::wide(rec[ENTRY_COLUMN]), bytes::wide(column)) {
         Order::Less => Order::Less,
         Order::More => Order::More,
         Order::Same => {
-            let c = cell::read_cell(&rec[26..]);
+            let c = cell::read_cell(&rec[ENTRY_VALUE..]);
             let stored = c.value;
             match value::compare(stored, v) {
                 Order::Less => Order::Less,
                 Order::More => Order::More,
                 Order::Same => {
-                    let d = cell::read_cell(&rec[52..]);
+                    let d = cell::read_cell(&rec[ENTRY_KEY..]);
                     let k = d.value;
                     value::compare(k, key)
                 }

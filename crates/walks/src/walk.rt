@@ -107,7 +107,7 @@ fn next_entered(
     let rec = layout::entry_record(s, p, places, i);
     Next {
         found: row_fault::is_of(rec, name, column, v),
-        key: cell::read_cell(&rec[52..]),
+        key: cell::read_cell(&rec[search::ENTRY_KEY..]),
     }
 }
 
