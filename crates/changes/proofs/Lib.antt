@@ -1,4 +1,5 @@
 pub mod Writing
+pub mod Changing
 pub mod RowRemoved
 pub mod RowAdded
 pub mod RowReplaced

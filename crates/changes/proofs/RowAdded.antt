@@ -57,6 +57,7 @@ use Rattle.laid.proofs.Keyed.{row-test}
 use Rattle.laid.proofs.Stores.{held-state, held-inside}
 use Rattle.laid.proofs.Midway.{Midway, mid-added, added-entries, mid-inside, mid-entered, mid-table, mid-table-bytes, mid-column}
 use Rattle.laid.proofs.RowFacts.{RowFacts, row-facts, column-few, column-byte, good-entry, entry-is, own-columns, own-full, own-key-below, own-key, own-good, held-midway, held-entries, table-there, table-held}
+use Rattle.changes.proofs.Changing.{Begun, Place, place-of}
 use Rattle.changes.proofs.RowRemoved.{entries-left, entries-none}
 
 -- ---- a row's record as it is written
@@ -159,6 +160,10 @@ module _ (p : Profile) (k : Coded p) (R : ℕ) (most : R ≤ placesMost) (st : S
           }
 
 -- ---- a row in flight
+
+-- the value of its cell j
+abbrev pub flight : Row → ℕ → D.Value
+flight row j = getD (row .cells) j (record { value = Null }) .value
 
 module _ (row : Row) (pr : ProperRow row) where
   -- a cell of the row in flight
@@ -362,77 +367,117 @@ newRow p R s t row = rowOf (tableIn p R s t) (cellsOf row)
 abbrev newIndex : Profile → ℕ → List ℕ → ℕ → Row → List Entry
 newIndex p R s t row = indexOf ((parse p R s) .tables) (withRow (newRow p R s t row) ((parse p R s) .rows))
 
-pub record AddTurn (p : Profile) (R : ℕ) (s₀ : List ℕ) (t : ℕ) (row : Row) (name : Text) (key : D.Value) (j : ℕ) (s : List ℕ) : Type 0 where
+pub record AddTurn (p : Profile) (R : ℕ) (s₀ : List ℕ) (t : ℕ) (row : Row) (name : Text) (key : D.Value) (i j : ℕ) (s : List ℕ) : Type 0 where
+  pub held : LaidStore p R s₀
+  pub proper : ProperRow row
+  pub addable : Addable p R s₀ t (cellsOf row)
   pub few : j ≤ row .count
   pub facts : RowFacts p R (tableIn p R s₀ t) (newRow p R s₀ t row) name (row .count) key
-  pub table : nth ((parse p R s₀) .tables) t ≡ some (tableIn p R s₀ t)
-  pub fits : length (newIndex p R s₀ t row) ≤ p .entries * R
+  pub placed : i ≡ rank cmpRow (newRow p R s₀ t row) ((parse p R s₀) .rows)
   pub adds : Adds p R (parse p R s₀) (newIndex p R s₀ t row) (newRow p R s₀ t row) ((tableIn p R s₀ t) .columns) j s
 
-module _ (p : Profile) (R : ℕ) (s₀ : List ℕ) (t : ℕ) (row : Row) (name : Text) (key : D.Value) where
-  pub add-start : LaidStore p R s₀ → ProperRow row → Addable p R s₀ t (cellsOf row)
-      → textBytes name ≡ (tableIn p R s₀ t) .name → Packed name → meaning key ≡ cellAt (cellsOf row) ((tableIn p R s₀ t) .key) → Proper key → AddTurn p R s₀ t row name key 0 s₀
-  add-start b pr a en hn ek hk =
+-- the start, with the name and the key column read
+module _ {p : Profile} {R : ℕ} {s₀ : List ℕ} {t : ℕ} {name : Text} {column : ℕ} (x : Begun p R s₀ t name column) {row : Row} (pr : ProperRow row) (a : Addable p R s₀ t (cellsOf row)) where
+  add-below : column < row .count
+  add-below = omega (arith, x .key, added-key-below p R s₀ (x .table .held) t row pr a)
+
+  pub add-eight : column < 8
+  add-eight = omega (arith, add-below, pr .most)
+
+  pub add-ranked : LaidStore p R s₀ × KeyColumn p R s₀ (textBytes name) column × Packed name × Proper (flight row column)
+  add-ranked = (x .table .held, added-column p R s₀ (x .table .held) t row pr a (textBytes name) column (x .named) (x .key), x .packed, flight-proper row pr column add-below)
+
+  pub add-start : {i : ℕ} → i ≡ countOf (λ y. isLt (cmpRow y (keyed (textBytes name) (meaning (flight row column))))) ((parse p R s₀) .rows) → AddTurn p R s₀ t row name (flight row column) i 0 s₀
+  add-start {i} ei =
+      let ek : meaning (flight row column) ≡ cellAt (cellsOf row) ((tableIn p R s₀ t) .key) = flight-cell row pr column add-below ∙ ap (cellAt (cellsOf row)) (x .key) in
       record {
+        held = x .table .held;
+        proper = pr;
+        addable = a;
         few = omega arith;
-        facts = added-facts p R s₀ b t row pr a name en hn key ek hk;
-        table = table-there p R s₀ t (a .known);
-        fits = final-fits p R s₀ b t row pr a;
-        adds = added-start p R s₀ b t row pr a;
+        facts = added-facts p R s₀ (x .table .held) t row pr a name (x .named) (x .packed) (flight row column) ek (flight-proper row pr column add-below);
+        placed = added-rank p R s₀ (x .table .held) t row pr a name (flight row column) (x .named) ek i ei;
+        adds = added-start p R s₀ (x .table .held) t row pr a;
       }
 
-  module _ (j : ℕ) (s : List ℕ) (x : AddTurn p R s₀ t row name key j s) (h : j < row .count) where
+module _ {p : Profile} {R : ℕ} {s₀ : List ℕ} {t : ℕ} {row : Row} {name : Text} {key : D.Value} {i j : ℕ} {s : List ℕ} (x : AddTurn p R s₀ t row name key i j s) where
+  -- the record, when no column is left
+  module _ (h : row .count ≤ j) {from w : ℕ} (ef : from ≡ rowsAt p) (ew : w ≡ rowWidth p) where
+    pub add-grows : Grows s rowsCount 2 from R i w
+    add-grows = added-grows p R s₀ (x .held) t row (x .proper) (x .addable) j s (x .adds) h from w i ef ew (x .placed)
+
+    module _ {s₁ : List ℕ} (e₁ : s₁ ≡ grown rowsCount 2 from R i (replicate w 0) s) where
+      pub add-place : Place p s₀ s₁ from w i
+      add-place =
+          place-of (x .held) (added-room p R s₀ (x .held) t row (x .proper) (x .addable) j s (x .adds) h from w i ef ew (x .placed) s₁ e₁)
+          (added-part p R s₀ (x .held) t row (x .proper) (x .addable) j s (x .adds) h from w i ef ew (x .placed) s₁ e₁)
+          (added-length p R s₀ (x .held) t row (x .proper) (x .addable) j s (x .adds) h from w i ef ew (x .placed) s₁ e₁)
+
+      pub add-done : {y : List ℕ} → y ≡ rowBytes (textBytes name) (cellsOf row) ++ drop (25 + row .count * 26) (take (from + i * w + w - (from + i * w)) (drop (from + i * w) s₁))
+          → putMid (from + i * w) (from + i * w + w - (from + i * w)) s₁ y ≡ image p R (apply (added (newRow p R s₀ t row)) (parse p R s₀))
+      add-done {y} ey = added-done p R s₀ (x .held) t row (x .proper) (x .addable) j s (x .adds) h from w i ef ew (x .placed) s₁ e₁ (textBytes name) y (x .facts .named) ey
+
+  module _ (h : j < row .count) where
     turn-mid : Midway p R (parse p R s₀) s
     turn-mid = x .adds .mid
 
-    pub add-inside : Inside p R s
-    add-inside = mid-inside p (x .facts .coded) R (x .facts .places) (parse p R s₀) s turn-mid
+    at : nth ((parse p R s₀) .tables) t ≡ some (tableIn p R s₀ t)
+    at = table-there p R s₀ t (x .addable .known)
 
-    pub add-table : t < length ((lists p R s) .schemas)
-    add-table = mid-table p (x .facts .coded) R (x .facts .places) (parse p R s₀) s turn-mid t (tableIn p R s₀ t) (x .table)
+    fits : length (newIndex p R s₀ t row) ≤ p .entries * R
+    fits = final-fits p R s₀ (x .held) t row (x .proper) (x .addable)
 
-    pub add-few : j < p .columns
-    add-few = column-few p R (tableIn p R s₀ t) (newRow p R s₀ t row) name (row .count) key (x .facts) j h
+    pub add-asked : Inside p R s × (t < length ((lists p R s) .schemas))
+    add-asked = (mid-inside p (x .facts .coded) R (x .facts .places) (parse p R s₀) s turn-mid, mid-table p (x .facts .coded) R (x .facts .places) (parse p R s₀) s turn-mid t (tableIn p R s₀ t) at)
+
+    pub add-eighth : j < 8
+    add-eighth = omega (arith, x .proper .most)
 
     pub add-byte : j < 256
     add-byte = column-byte p R (tableIn p R s₀ t) (newRow p R s₀ t row) name (row .count) key (x .facts) j h
 
-    pub add-bytes : (rec : List ℕ) → rec ≡ getD ((lists p R s) .schemas) t [] → TableBytes p rec
-    add-bytes rec er = mid-table-bytes p (x .facts .coded) R (x .facts .places) (parse p R s₀) s turn-mid t (tableIn p R s₀ t) (x .table) rec er (x .facts .good-table)
+    module _ {rec : List ℕ} (er : rec ≡ getD ((lists p R s) .schemas) t []) where
+      pub add-read : TableBytes p rec × (j < p .columns)
+      add-read = (
+        mid-table-bytes p (x .facts .coded) R (x .facts .places) (parse p R s₀) s turn-mid t (tableIn p R s₀ t) at rec er (x .facts .good-table),
+        column-few p R (tableIn p R s₀ t) (newRow p R s₀ t row) name (row .count) key (x .facts) j h,
+      )
 
-    module _ (rec : List ℕ) (er : rec ≡ getD ((lists p R s) .schemas) t []) (c : Column) (rc : ColumnRead p rec j c) where
-      column-is : nth ((tableIn p R s₀ t) .columns) j ≡ some (columnOf c)
-      column-is = mid-column p (x .facts .coded) R (x .facts .places) (parse p R s₀) s turn-mid t (tableIn p R s₀ t) (x .table) rec er (x .facts .good-table) j c rc (omega (arith, x .facts .counted))
+      module _ {c : Column} (rc : ColumnRead p rec j c) where
+        column-is : nth ((tableIn p R s₀ t) .columns) j ≡ some (columnOf c)
+        column-is = mid-column p (x .facts .coded) R (x .facts .places) (parse p R s₀) s turn-mid t (tableIn p R s₀ t) at rec er (x .facts .good-table) j c rc (omega (arith, x .facts .counted))
 
-      pub add-past : c .index ≡ false → AddTurn p R s₀ t row name key (j + 1) s
-      add-past e =
-          record {
-            few = omega arith;
-            facts = x .facts;
-            table = x .table;
-            fits = x .fits;
-            adds = adds-past p (x .facts .coded) R (x .facts .places) (parse p R s₀) (newIndex p R s₀ t row) (x .fits) (newRow p R s₀ t row) ((tableIn p R s₀ t) .columns) j s (x .adds) (columnOf c) column-is e;
-          }
-
-      module _ (e : c .index ≡ true) (v : D.Value) (ev : meaning v ≡ cellAt (cellsOf row) j) where
-        come-is : entryOf name j v key ≡ entryAt (newRow p R s₀ t row) j
-        come-is = entry-is p R (tableIn p R s₀ t) (newRow p R s₀ t row) name (row .count) key (x .facts) j h v ev
-
-        pub add-requires : Proper v → Entered p R s × ProperEntry name v key × (length (entriesIn p R s) < p .entries * R)
-        add-requires hv = (
-          mid-entered p (x .facts .coded) R (x .facts .places) (parse p R s₀) s turn-mid,
-          record { name = x .facts .packed; value = hv; key = x .facts .proper },
-          adds-room p (x .facts .coded) R (x .facts .places) (parse p R s₀) (newIndex p R s₀ t row) (x .fits) (newRow p R s₀ t row) ((tableIn p R s₀ t) .columns) j s (x .adds) (columnOf c) column-is e,
-        )
-
-        pub add-next : (s₁ : List ℕ) → Laid p R s₁ (entryAdded p R (entryOf name j v key) s) → AddTurn p R s₀ t row name key (j + 1) s₁
-        add-next s₁ l =
+        add-turn : {s₁ s₂ : List ℕ} → Adds p R (parse p R s₀) (newIndex p R s₀ t row) (newRow p R s₀ t row) ((tableIn p R s₀ t) .columns) (j + 1) s₁ → s₂ ≡ s₁ → AddTurn p R s₀ t row name key i (j + 1) s₂
+        add-turn y e₂ =
             record {
+              held = x .held;
+              proper = x .proper;
+              addable = x .addable;
               few = omega arith;
               facts = x .facts;
-              table = x .table;
-              fits = x .fits;
-              adds = adds-next p (x .facts .coded) R (x .facts .places) (parse p R s₀) (newIndex p R s₀ t row) (x .fits) (newRow p R s₀ t row) ((tableIn p R s₀ t) .columns) j s (x .adds) (columnOf c) column-is e
-                  (good-entry p R (tableIn p R s₀ t) (newRow p R s₀ t row) name (row .count) key (x .facts) j h) s₁
-                  (subst (λ (y : Entry). Laid p R s₁ (entryAdded p R y s)) come-is l);
+              placed = x .placed;
+              adds = subst (Adds p R (parse p R s₀) (newIndex p R s₀ t row) (newRow p R s₀ t row) ((tableIn p R s₀ t) .columns) (j + 1)) (sym e₂) y;
             }
+
+        pub add-past : c .index ≡ false → {s₂ : List ℕ} → s₂ ≡ s → AddTurn p R s₀ t row name key i (j + 1) s₂
+        add-past e e₂ =
+            add-turn (adds-past p (x .facts .coded) R (x .facts .places) (parse p R s₀) (newIndex p R s₀ t row) fits (newRow p R s₀ t row) ((tableIn p R s₀ t) .columns) j s (x .adds) (columnOf c) column-is e) e₂
+
+        module _ (e : c .index ≡ true) where
+          come-is : entryOf name j (flight row j) key ≡ entryAt (newRow p R s₀ t row) j
+          come-is = entry-is p R (tableIn p R s₀ t) (newRow p R s₀ t row) name (row .count) key (x .facts) j h (flight row j) (flight-cell row (x .proper) j h)
+
+          pub add-requires : Entered p R s × ProperEntry name (flight row j) key × (length (entriesIn p R s) < p .entries * R)
+          add-requires = (
+            mid-entered p (x .facts .coded) R (x .facts .places) (parse p R s₀) s turn-mid,
+            record { name = x .facts .packed; value = flight-proper row (x .proper) j h; key = x .facts .proper },
+            adds-room p (x .facts .coded) R (x .facts .places) (parse p R s₀) (newIndex p R s₀ t row) fits (newRow p R s₀ t row) ((tableIn p R s₀ t) .columns) j s (x .adds) (columnOf c) column-is e,
+          )
+
+          pub add-next : {s₁ : List ℕ} → Laid p R s₁ (entryAdded p R (entryOf name j (flight row j) key) s) → {s₂ : List ℕ} → s₂ ≡ s₁ → AddTurn p R s₀ t row name key i (j + 1) s₂
+          add-next {s₁} l e₂ =
+              add-turn
+              (adds-next p (x .facts .coded) R (x .facts .places) (parse p R s₀) (newIndex p R s₀ t row) fits (newRow p R s₀ t row) ((tableIn p R s₀ t) .columns) j s (x .adds) (columnOf c) column-is e
+              (good-entry p R (tableIn p R s₀ t) (newRow p R s₀ t row) name (row .count) key (x .facts) j h) s₁
+              (subst (λ (y : Entry). Laid p R s₁ (entryAdded p R y s)) come-is l))
+              e₂

@@ -11,9 +11,10 @@ use Rattle.values.specs.Basic.{isLt, keepIf, nth}
 use Rattle.values.specs.Cell.{nameWidth, readValue}
 use Rattle.values.specs.declared.value.Text.{Text}
 use Rattle.values.specs.declared.value.Value as D
-use Rattle.values.specs.Meaning.{textBytes, Packed, meaning, Proper}
+use Rattle.values.specs.declared.value.Cell.{Cell}
+use Rattle.values.specs.Meaning.{held, ProperCell}
 use Rattle.values.specs.Counted.{Shrinks, shrunk}
-use Rattle.values.specs.Sorted.{Sorted, countOf, removeRun, removeAt}
+use Rattle.values.specs.Sorted.{In, Sorted, countOf, removeRun, removeAt}
 use Rattle.values.proofs.Changes.{remove-one}
 use Rattle.values.proofs.Orders.{Ord, self, gt≢lt}
 use Rattle.values.proofs.Placing.{rank, holds-in, keep-others}
@@ -43,6 +44,7 @@ use Rattle.laid.proofs.Stores.{held-state, held-inside}
 use Rattle.laid.proofs.RowFacts.{RowFacts, row-facts, column-few, column-byte, entry-is, own-columns, own-full, own-key-below, held-midway, held-entries, table-there, table-held}
 use Rattle.laid.proofs.Finding.{drop-nth}
 use Rattle.laid.proofs.Midway.{Midway, mid-removed, removed-entries, mid-inside, mid-entered, mid-table, mid-table-bytes, mid-column, mid-row, mid-row-long, mid-cell}
+use Rattle.changes.proofs.Changing.{Begun}
 
 -- in a sorted list, as many are before an element as its place says
 pub rank-nth : {A : Type 0} {cmp : A → A → Ordering} (O : Ord cmp) (xs : List A) (i : ℕ) (a : A) → Sorted cmp xs → nth xs i ≡ some a → rank cmp a xs ≡ i
@@ -143,121 +145,132 @@ module _ (p : Profile) (R : ℕ) (st : State) (o : Sorted cmpRow (st .rows)) (r 
 -- ---- a turn of the loop, with what the code has at hand
 
 pub record RemoveTurn (p : Profile) (R : ℕ) (s₀ : List ℕ) (t i : ℕ) (name : Text) (count : ℕ) (key : D.Value) (j : ℕ) (s : List ℕ) : Type 0 where
+  pub held : LaidStore p R s₀
+  pub of : RowOf p R s₀ t i
   pub few : j ≤ count
   pub facts : RowFacts p R (tableIn p R s₀ t) (rowIn p R s₀ i) name count key
-  pub table : nth ((parse p R s₀) .tables) t ≡ some (tableIn p R s₀ t)
-  pub row : nth ((parse p R s₀) .rows) i ≡ some (rowIn p R s₀ i)
   pub removes : Removes p R (parse p R s₀) (rowIn p R s₀ i) ((tableIn p R s₀ t) .columns) j s
 
-module _ (p : Profile) (R : ℕ) (s₀ : List ℕ) (t i : ℕ) (b : LaidStore p R s₀) (o : RowOf p R s₀ t i) where
-  -- the key column is one of the row's
-  pub remove-key : (column : ℕ) → column ≡ (tableIn p R s₀ t) .key → column < length ((rowIn p R s₀ i) .cells)
-  remove-key column e =
-      let v = held-state p R s₀ b in
-      let m = table-held p R s₀ b t (o .known) in
-      let n = row-in p R s₀ b i (o .stored) in
+module _ {p : Profile} {R : ℕ} {s₀ : List ℕ} {t i : ℕ} (b : LaidStore p R s₀) (o : RowOf p R s₀ t i) where
+  there : In (tableIn p R s₀ t) ((parse p R s₀) .tables)
+  there = table-held p R s₀ b t (o .known)
+
+  stood : In (rowIn p R s₀ i) ((parse p R s₀) .rows)
+  stood = row-in p R s₀ b i (o .stored)
+
+  columns-are : columnsOf ((parse p R s₀) .tables) ((rowIn p R s₀ i) .table) ≡ (tableIn p R s₀ t) .columns
+  columns-are = own-columns p (b .coded .known) R (parse p R s₀) (held-state p R s₀ b) (tableIn p R s₀ t) there (rowIn p R s₀ i) stood (o .of)
+
+  module _ {name : Text} {column : ℕ} (x : Begun p R s₀ t name column) where
+    -- the key column is one of the row's
+    pub remove-key : LaidStore p R s₀ × (i < length ((parse p R s₀) .rows)) × (column < length ((rowIn p R s₀ i) .cells))
+    remove-key = (
+      b,
+      o .stored,
       omega (
         arith,
-        e,
-        own-full p (b .coded .known) R (parse p R s₀) v (tableIn p R s₀ t) m (rowIn p R s₀ i) n (o .of),
-        own-key-below p (b .coded .known) R (parse p R s₀) v (tableIn p R s₀ t) m (rowIn p R s₀ i) n (o .of),
-      )
+        x .key,
+        own-full p (b .coded .known) R (parse p R s₀) (held-state p R s₀ b) (tableIn p R s₀ t) there (rowIn p R s₀ i) stood (o .of),
+        own-key-below p (b .coded .known) R (parse p R s₀) (held-state p R s₀ b) (tableIn p R s₀ t) there (rowIn p R s₀ i) stood (o .of),
+      ),
+    )
 
-module _ (p : Profile) (R : ℕ) (s₀ : List ℕ) (t i : ℕ) (name : Text) (count : ℕ) (key : D.Value) where
-  module _ (b : LaidStore p R s₀) (o : RowOf p R s₀ t i) where
-    columns-are : columnsOf ((parse p R s₀) .tables) ((rowIn p R s₀ i) .table) ≡ (tableIn p R s₀ t) .columns
-    columns-are =
-        own-columns p (b .coded .known) R (parse p R s₀) (held-state p R s₀ b) (tableIn p R s₀ t) (table-held p R s₀ b t (o .known)) (rowIn p R s₀ i) (row-in p R s₀ b i (o .stored)) (o .of)
-
-    pub remove-start : textBytes name ≡ (tableIn p R s₀ t) .name → Packed name → count ≡ length ((tableIn p R s₀ t) .columns) → meaning key ≡ cellAt ((rowIn p R s₀ i) .cells) ((tableIn p R s₀ t) .key) → Proper key
-        → RemoveTurn p R s₀ t i name count key 0 s₀
-    remove-start en hn ec ek hk =
+    pub remove-start : {count : ℕ} → count ≡ length ((tableIn p R s₀ t) .columns) → (z : Cell) → (held z ≡ cellAt ((rowIn p R s₀ i) .cells) column) × ProperCell z → RemoveTurn p R s₀ t i name count (z .value) 0 s₀
+    remove-start {count} ec z ez =
         record {
+          held = b;
+          of = o;
           few = omega arith;
-          facts = row-facts p (b .coded) R (b .places) (parse p R s₀) (held-state p R s₀ b) (tableIn p R s₀ t) (table-held p R s₀ b t (o .known)) (rowIn p R s₀ i) (row-in p R s₀ b i (o .stored)) (o .of) name en hn count ec key ek hk;
-          table = table-there p R s₀ t (o .known);
-          row = row-at p R s₀ b i (o .stored);
+          facts = row-facts p (b .coded) R (b .places) (parse p R s₀) (held-state p R s₀ b) (tableIn p R s₀ t) there (rowIn p R s₀ i) stood (o .of) name (x .named) (x .packed) count ec (z .value)
+              (ez .0 ∙ ap (cellAt ((rowIn p R s₀ i) .cells)) (x .key)) (ez .1);
           removes = removes-start p R (parse p R s₀) (held-state p R s₀ b .rows-sorted) (rowIn p R s₀ i) i (row-at p R s₀ b i (o .stored)) ((tableIn p R s₀ t) .columns) columns-are s₀ (held-midway p R s₀ b) (held-entries p R s₀ b);
         }
 
-    -- the record goes when no column is left
-    module _ (j : ℕ) (s : List ℕ) (x : RemoveTurn p R s₀ t i name count key j s) (h : count ≤ j) (from w : ℕ) (ef : from ≡ rowsAt p) (ew : w ≡ rowWidth p) where
-      pub remove-shrinks : Shrinks s rowsCount 2 from R w i 1
-      remove-shrinks =
-          row-shrinks p R (parse p R s₀) (held-state p R s₀ b .rows-sorted) (rowIn p R s₀ i) i (x .row) ((tableIn p R s₀ t) .columns) columns-are j s (x .removes) (omega (arith, x .facts .counted)) from w ef ew
+module _ {p : Profile} {R : ℕ} {s₀ : List ℕ} {t i : ℕ} {name : Text} {count : ℕ} {key : D.Value} {j : ℕ} {s : List ℕ} (x : RemoveTurn p R s₀ t i name count key j s) where
+  turn-mid : Midway p R (parse p R s₀) s
+  turn-mid = x .removes .mid
 
-      pub remove-length : length s ≡ length s₀
-      remove-length = omega (arith, mid-inside p (b .coded) R (b .places) (parse p R s₀) s (x .removes .mid) .long, held-inside p R s₀ b .long)
+  at-row : nth ((parse p R s₀) .rows) i ≡ some (rowIn p R s₀ i)
+  at-row = row-at p R s₀ (x .held) i (x .of .stored)
 
-      pub remove-done : (s₁ : List ℕ) → s₁ ≡ shrunk rowsCount 2 from R w i 1 s → s₁ ≡ image p R (apply (removed (rowIn p R s₀ i)) (parse p R s₀))
-      remove-done =
-          row-gone p R (parse p R s₀) (held-state p R s₀ b .rows-sorted) (rowIn p R s₀ i) i (x .row) ((tableIn p R s₀ t) .columns) columns-are j s (x .removes) (omega (arith, x .facts .counted)) from w ef ew
+  inside : Inside p R s
+  inside = mid-inside p (x .facts .coded) R (x .facts .places) (parse p R s₀) s turn-mid
 
-  module _ (j : ℕ) (s : List ℕ) (x : RemoveTurn p R s₀ t i name count key j s) (h : j < count) where
+  pub remove-length : length s ≡ length s₀
+  remove-length = omega (arith, inside .long, held-inside p R s₀ (x .held) .long)
+
+  -- the record goes when no column is left
+  module _ (h : count ≤ j) {from w : ℕ} (ef : from ≡ rowsAt p) (ew : w ≡ rowWidth p) where
+    pub remove-shrinks : Shrinks s rowsCount 2 from R w i 1
+    remove-shrinks =
+        row-shrinks p R (parse p R s₀) (held-state p R s₀ (x .held) .rows-sorted) (rowIn p R s₀ i) i at-row ((tableIn p R s₀ t) .columns) (columns-are (x .held) (x .of)) j s (x .removes) (omega (arith, x .facts .counted)) from w ef ew
+
+    pub remove-done : {s₁ : List ℕ} → s₁ ≡ shrunk rowsCount 2 from R w i 1 s → s₁ ≡ image p R (apply (removed (rowIn p R s₀ i)) (parse p R s₀))
+    remove-done {s₁} =
+        row-gone p R (parse p R s₀) (held-state p R s₀ (x .held) .rows-sorted) (rowIn p R s₀ i) i at-row ((tableIn p R s₀ t) .columns) (columns-are (x .held) (x .of)) j s (x .removes) (omega (arith, x .facts .counted)) from w ef ew s₁
+
+  module _ (h : j < count) where
     abbrev T : Table
     T = tableIn p R s₀ t
 
     abbrev r : S.Row
     r = rowIn p R s₀ i
 
-    turn-mid : Midway p R (parse p R s₀) s
-    turn-mid = x .removes .mid
+    at-table : nth ((parse p R s₀) .tables) t ≡ some T
+    at-table = table-there p R s₀ t (x .of .known)
 
-    pub turn-inside : Inside p R s
-    turn-inside = mid-inside p (x .facts .coded) R (x .facts .places) (parse p R s₀) s turn-mid
-
-    pub turn-table : t < length ((lists p R s) .schemas)
-    turn-table = mid-table p (x .facts .coded) R (x .facts .places) (parse p R s₀) s turn-mid t T (x .table)
-
-    pub turn-row : i < length ((lists p R s) .rows)
-    turn-row = mid-row p (x .facts .coded) R (x .facts .places) (parse p R s₀) s turn-mid i r (x .row)
-
-    pub turn-few : j < p .columns
-    turn-few = column-few p R T r name count key (x .facts) j h
+    few-columns : j < p .columns
+    few-columns = column-few p R T r name count key (x .facts) j h
 
     pub turn-byte : j < 256
     turn-byte = column-byte p R T r name count key (x .facts) j h
 
-    pub turn-bytes : (rec : List ℕ) → rec ≡ getD ((lists p R s) .schemas) t [] → TableBytes p rec
-    turn-bytes rec er = mid-table-bytes p (x .facts .coded) R (x .facts .places) (parse p R s₀) s turn-mid t T (x .table) rec er (x .facts .good-table)
+    pub turn-table : Inside p R s × (t < length ((lists p R s) .schemas))
+    turn-table = (inside, mid-table p (x .facts .coded) R (x .facts .places) (parse p R s₀) s turn-mid t T at-table)
 
-    pub turn-long : (rec : List ℕ) → rec ≡ getD ((lists p R s) .rows) i [] → length rec ≡ rowWidth p
-    turn-long rec er = mid-row-long p (x .facts .coded) R (x .facts .places) (parse p R s₀) s turn-mid i r (x .row) rec er (x .facts .good-row)
+    pub turn-row : Inside p R s × (i < length ((lists p R s) .rows))
+    turn-row = (inside, mid-row p (x .facts .coded) R (x .facts .places) (parse p R s₀) s turn-mid i r at-row)
 
-    module _ (rec : List ℕ) (er : rec ≡ getD ((lists p R s) .schemas) t []) (c : Column) (rc : ColumnRead p rec j c) where
-      column-is : nth (T .columns) j ≡ some (columnOf c)
-      column-is = mid-column p (x .facts .coded) R (x .facts .places) (parse p R s₀) s turn-mid t T (x .table) rec er (x .facts .good-table) j c rc (omega (arith, x .facts .counted))
+    pub turn-cell : {rec : List ℕ} → rec ≡ getD ((lists p R s) .rows) i [] → Coded p × (length rec ≡ rowWidth p) × (j < p .columns)
+    turn-cell {rec} er = (x .facts .coded, mid-row-long p (x .facts .coded) R (x .facts .places) (parse p R s₀) s turn-mid i r at-row rec er (x .facts .good-row), few-columns)
 
-      pub turn-past : c .index ≡ false → RemoveTurn p R s₀ t i name count key (j + 1) s
-      turn-past e =
-          record {
-            few = omega arith;
-            facts = x .facts;
-            table = x .table;
-            row = x .row;
-            removes = removes-past p (x .facts .coded) R (x .facts .places) (parse p R s₀) r (T .columns) j s (x .removes) (columnOf c) column-is e;
-          }
+    module _ {rec : List ℕ} (er : rec ≡ getD ((lists p R s) .schemas) t []) where
+      pub turn-read : TableBytes p rec × (j < p .columns)
+      turn-read = (mid-table-bytes p (x .facts .coded) R (x .facts .places) (parse p R s₀) s turn-mid t T at-table rec er (x .facts .good-table), few-columns)
 
-      module _ (e : c .index ≡ true) (rw₁ : List ℕ) (ew : rw₁ ≡ getD ((lists p R s) .rows) i []) (v : D.Value) (ev : meaning v ≡ readValue (drop (nameWidth + j * p .cell) rw₁)) where
-        gone-is : entryOf name j v key ≡ entryAt r j
-        gone-is =
-            entry-is p R T r name count key (x .facts) j h v
-            (ev ∙ mid-cell p (x .facts .coded) R (x .facts .places) (parse p R s₀) s turn-mid i r (x .row) rw₁ ew (x .facts .good-row) j (omega (arith, x .facts .full)))
+      module _ {c : Column} (rc : ColumnRead p rec j c) where
+        column-is : nth (T .columns) j ≡ some (columnOf c)
+        column-is = mid-column p (x .facts .coded) R (x .facts .places) (parse p R s₀) s turn-mid t T at-table rec er (x .facts .good-table) j c rc (omega (arith, x .facts .counted))
 
-        pub turn-requires : Proper v → Entered p R s × ProperEntry name v key × (entryIn p R (entryOf name j v key) s ≡ true)
-        turn-requires hv = (
-          mid-entered p (x .facts .coded) R (x .facts .places) (parse p R s₀) s turn-mid,
-          record { name = x .facts .packed; value = hv; key = x .facts .proper },
-          subst (λ (y : Entry). entryIn p R y s ≡ true) (sym gone-is) (removes-there p (x .facts .coded) R (x .facts .places) (parse p R s₀) r (T .columns) j s (x .removes) (columnOf c) column-is e),
-        )
-
-        pub turn-next : (s₁ : List ℕ) → Laid p R s₁ (entryRemoved p R (entryOf name j v key) s) → RemoveTurn p R s₀ t i name count key (j + 1) s₁
-        turn-next s₁ l =
+        turn-to : {s₁ s₂ : List ℕ} → Removes p R (parse p R s₀) r (T .columns) (j + 1) s₁ → s₂ ≡ s₁ → RemoveTurn p R s₀ t i name count key (j + 1) s₂
+        turn-to y e₂ =
             record {
+              held = x .held;
+              of = x .of;
               few = omega arith;
               facts = x .facts;
-              table = x .table;
-              row = x .row;
-              removes = removes-next p (x .facts .coded) R (x .facts .places) (parse p R s₀) r (T .columns) j s (x .removes) (columnOf c) column-is e s₁
-                  (subst (λ (y : Entry). Laid p R s₁ (entryRemoved p R y s)) gone-is l);
+              removes = subst (Removes p R (parse p R s₀) r (T .columns) (j + 1)) (sym e₂) y;
             }
+
+        pub turn-past : c .index ≡ false → {s₂ : List ℕ} → s₂ ≡ s → RemoveTurn p R s₀ t i name count key (j + 1) s₂
+        turn-past e e₂ = turn-to (removes-past p (x .facts .coded) R (x .facts .places) (parse p R s₀) r (T .columns) j s (x .removes) (columnOf c) column-is e) e₂
+
+        module _ (e : c .index ≡ true) {rec₁ : List ℕ} (er₁ : rec₁ ≡ getD ((lists p R s) .rows) i []) (z : Cell) (ez : (held z ≡ readValue (drop (nameWidth + j * p .cell) rec₁)) × ProperCell z) where
+          gone-is : entryOf name j (z .value) key ≡ entryAt r j
+          gone-is =
+              entry-is p R T r name count key (x .facts) j h (z .value)
+              (ez .0 ∙ mid-cell p (x .facts .coded) R (x .facts .places) (parse p R s₀) s turn-mid i r at-row rec₁ er₁ (x .facts .good-row) j (omega (arith, x .facts .full)))
+
+          pub turn-requires : Entered p R s × ProperEntry name (z .value) key × (entryIn p R (entryOf name j (z .value) key) s ≡ true)
+          turn-requires = (
+            mid-entered p (x .facts .coded) R (x .facts .places) (parse p R s₀) s turn-mid,
+            record { name = x .facts .packed; value = ez .1; key = x .facts .proper },
+            subst (λ (y : Entry). entryIn p R y s ≡ true) (sym gone-is) (removes-there p (x .facts .coded) R (x .facts .places) (parse p R s₀) r (T .columns) j s (x .removes) (columnOf c) column-is e),
+          )
+
+          pub turn-next : {s₁ : List ℕ} → Laid p R s₁ (entryRemoved p R (entryOf name j (z .value) key) s) → {s₂ : List ℕ} → s₂ ≡ s₁ → RemoveTurn p R s₀ t i name count key (j + 1) s₂
+          turn-next {s₁} l e₂ =
+              turn-to
+              (removes-next p (x .facts .coded) R (x .facts .places) (parse p R s₀) r (T .columns) j s (x .removes) (columnOf c) column-is e s₁
+              (subst (λ (y : Entry). Laid p R s₁ (entryRemoved p R y s)) gone-is l))
+              e₂

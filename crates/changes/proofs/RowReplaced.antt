@@ -17,7 +17,8 @@ use Rattle.values.specs.Counted.{shrunk}
 use Rattle.values.specs.Sorted.{In, Sorted, replaceAt}
 use Rattle.values.specs.declared.value.Text.{Text}
 use Rattle.values.specs.declared.value.Value as D
-use Rattle.values.specs.Meaning.{textBytes, Packed, meaning, Proper, held}
+use Rattle.values.specs.declared.value.Cell.{Cell}
+use Rattle.values.specs.Meaning.{textBytes, Packed, meaning, Proper, held, ProperCell}
 use Rattle.values.proofs.Cells.{normalised-twice}
 use Rattle.values.proofs.Halving.{count-same}
 use Rattle.values.proofs.Nest.{mid-back}
@@ -53,7 +54,8 @@ use Rattle.laid.proofs.Midway.{Midway, midway-of, entries-back, mid-added, adde
 use Rattle.laid.proofs.Keyed.{row-at, row-in}
 use Rattle.laid.proofs.Stores.{held-state, held-inside}
 use Rattle.laid.proofs.RowFacts.{RowFacts, row-facts, column-few, column-byte, good-entry, entry-is, own-columns, own-full, own-key-below, own-key, own-key-good, own-good, held-midway, held-entries, table-there, table-held}
-use Rattle.changes.proofs.RowAdded.{record-parts, record-rest}
+use Rattle.changes.proofs.Changing.{Begun, Place, place-of}
+use Rattle.changes.proofs.RowAdded.{record-parts, record-rest, flight, flight-cell, flight-proper}
 
 -- ---- on the way
 
@@ -183,13 +185,17 @@ module _ (p : Profile) (k : Coded p) (R : ℕ) (most : R ≤ placesMost) (st : S
 abbrev inFlight : Profile → ℕ → List ℕ → ℕ → Row → S.Row
 inFlight p R s t row = rowOf (tableIn p R s t) (cellsOf row)
 
+abbrev index : Profile → ℕ → List ℕ → ℕ → Row → List Entry
+index p R s t row = indexOf ((parse p R s) .tables) (withRow (inFlight p R s t row) ((parse p R s) .rows))
+
 pub record ReplaceTurn (p : Profile) (R : ℕ) (s₀ : List ℕ) (t i : ℕ) (row : Row) (name : Text) (key : D.Value) (j : ℕ) (s : List ℕ) : Type 0 where
+  pub held : LaidStore p R s₀
+  pub proper : ProperRow row
+  pub able : Replaceable p R s₀ t i (cellsOf row)
   pub few : j ≤ row .count
   pub olds : RowFacts p R (tableIn p R s₀ t) (rowIn p R s₀ i) name (row .count) key
   pub news : RowFacts p R (tableIn p R s₀ t) (inFlight p R s₀ t row) name (row .count) key
-  pub table : nth ((parse p R s₀) .tables) t ≡ some (tableIn p R s₀ t)
-  pub row-at : nth ((parse p R s₀) .rows) i ≡ some (rowIn p R s₀ i)
-  pub swaps : Swaps p R (parse p R s₀) (indexOf ((parse p R s₀) .tables) (withRow (inFlight p R s₀ t row) ((parse p R s₀) .rows))) (rowIn p R s₀ i) (inFlight p R s₀ t row) ((tableIn p R s₀ t) .columns) j s
+  pub swaps : Swaps p R (parse p R s₀) (index p R s₀ t row) (rowIn p R s₀ i) (inFlight p R s₀ t row) ((tableIn p R s₀ t) .columns) j s
 
 module _ (p : Profile) (R : ℕ) (s₀ : List ℕ) (b : LaidStore p R s₀) (t i : ℕ) (row : Row) (pr : ProperRow row) (a : Replaceable p R s₀ t i (cellsOf row)) where
   abbrev T : Table
@@ -220,13 +226,13 @@ module _ (p : Profile) (R : ℕ) (s₀ : List ℕ) (b : LaidStore p R s₀) (t i
   stood : In before ((parse p R s₀) .rows)
   stood = row-in p R s₀ b i (a .row .stored)
 
-  pub coming-full : row .count ≡ length (T .columns)
+  coming-full : row .count ≡ length (T .columns)
   unfolding cellsOf
   coming-full =
       sym (length-map (take (row .count) (row .cells)) held ∙ length-take-le (row .count) (row .cells) (pr .few))
       ∙ own-full p kn R later later-laid T there coming came refl
 
-  pub coming-key-below : T .key < row .count
+  coming-key-below : T .key < row .count
   coming-key-below = omega (arith, coming-full, own-key-below p kn R later later-laid T there coming came refl)
 
   keys-agree : normalised (before .key) ≡ coming .key
@@ -241,7 +247,7 @@ module _ (p : Profile) (R : ℕ) (s₀ : List ℕ) (b : LaidStore p R s₀) (t i
   columns-are : columnsOf ((parse p R s₀) .tables) (before .table) ≡ T .columns
   columns-are = own-columns p kn R (parse p R s₀) (held-state p R s₀ b) T there before stood (a .row .of)
 
-  pub coming-good : GoodRow p coming
+  coming-good : GoodRow p coming
   coming-good = own-good p kn R later later-laid T there coming came refl
 
   module _ (name : Text) (en : textBytes name ≡ T .name) (hn : Packed name) (key : D.Value) (ek : meaning key ≡ cellAt (cellsOf row) (T .key)) (hk : Proper key) where
@@ -253,21 +259,22 @@ module _ (p : Profile) (R : ℕ) (s₀ : List ℕ) (b : LaidStore p R s₀) (t i
         row-facts p (b .coded) R (b .places) (parse p R s₀) (held-state p R s₀ b) T there before stood (a .row .of) name en hn (row .count) coming-full key
         (ek ∙ own-key p kn R later later-laid T there coming came refl ∙ sym same-key ∙ sym (own-key p kn R (parse p R s₀) (held-state p R s₀ b) T there before stood (a .row .of))) hk
 
-    pub replace-start : ReplaceTurn p R s₀ t i row name key 0 s₀
-    replace-start =
+    replaced-start : ReplaceTurn p R s₀ t i row name key 0 s₀
+    replaced-start =
         record {
+          held = b;
+          proper = pr;
+          able = a;
           few = omega arith;
           olds = old-facts;
           news = new-facts;
-          table = table-there p R s₀ t (a .row .known);
-          row-at = row-at p R s₀ b i (a .row .stored);
           swaps = swaps-start p (b .coded) R (b .places) (parse p R s₀) (held-state p R s₀ b .rows-sorted) before coming i (row-at p R s₀ b i (a .row .stored)) one-place-both (T .columns) columns-are s₀ (held-midway p R s₀ b) (held-entries p R s₀ b);
         }
 
-  module _ (j : ℕ) (s : List ℕ) (x : Swaps p R (parse p R s₀) (indexOf ((parse p R s₀) .tables) (withRow coming ((parse p R s₀) .rows))) before coming (T .columns) j s) (h : row .count ≤ j)
+  module _ (j : ℕ) (s : List ℕ) (x : Swaps p R (parse p R s₀) (index p R s₀ t row) before coming (T .columns) j s) (h : row .count ≤ j)
       (from w : ℕ) (ef : from ≡ rowsAt p) (ew : w ≡ rowWidth p) where
-    pub replace-room : from + i * w + w ≤ length s
-    replace-room =
+    replaced-room : from + i * w + w ≤ length s
+    replaced-room =
         swap-room p (b .coded) R (b .places) (parse p R s₀) (held-state p R s₀ b .rows-sorted) before coming i (row-at p R s₀ b i (a .row .stored)) one-place-both (T .columns) columns-are j s x (omega (arith, coming-full)) from w ef ew
 
     part-was : take (from + i * w + w - (from + i * w)) (drop (from + i * w) s) ≡ rowRecord p before
@@ -277,15 +284,15 @@ module _ (p : Profile) (R : ℕ) (s₀ : List ℕ) (b : LaidStore p R s₀) (t i
     before-good : GoodRow p before
     before-good = own-good p kn R (parse p R s₀) (held-state p R s₀ b) T there before stood (a .row .of)
 
-    pub replace-part : length (take (from + i * w + w - (from + i * w)) (drop (from + i * w) s)) ≡ rowWidth p
-    replace-part = ap length part-was ∙ row-long p (kn .cell) before before-good
+    replaced-part : length (take (from + i * w + w - (from + i * w)) (drop (from + i * w) s)) ≡ rowWidth p
+    replaced-part = ap length part-was ∙ row-long p (kn .cell) before before-good
 
-    pub replace-length : length s ≡ length s₀
-    replace-length = omega (arith, mid-inside p (b .coded) R (b .places) (parse p R s₀) s (x .mid) .long, held-inside p R s₀ b .long)
+    replaced-length : length s ≡ length s₀
+    replaced-length = omega (arith, mid-inside p (b .coded) R (b .places) (parse p R s₀) s (x .mid) .long, held-inside p R s₀ b .long)
 
-    pub replace-done : (n y : List ℕ) → n ≡ T .name → y ≡ rowBytes n (cellsOf row) ++ drop (25 + row .count * 26) (take (from + i * w + w - (from + i * w)) (drop (from + i * w) s))
+    replaced-done : (n y : List ℕ) → n ≡ T .name → y ≡ rowBytes n (cellsOf row) ++ drop (25 + row .count * 26) (take (from + i * w + w - (from + i * w)) (drop (from + i * w) s))
         → putMid (from + i * w) (from + i * w + w - (from + i * w)) s y ≡ image p R (apply (replaced before coming) (parse p R s₀))
-    replace-done n y en ey =
+    replaced-done n y en ey =
         let cb : length (before .cells) ≡ row .count = own-full p kn R (parse p R s₀) (held-state p R s₀ b) T there before stood (a .row .of) ∙ sym coming-full in
         let cc : length (cellsOf row) ≡ row .count = own-full p kn R later later-laid T there coming came refl ∙ sym coming-full in
         let z : _≡_ {A = List ℕ} (drop (25 + row .count * 26) (rowRecord p before)) (replicate (p .columns * p .cell - length (cellsOf row) * 26) 0) =
@@ -301,90 +308,127 @@ module _ (p : Profile) (R : ℕ) (s₀ : List ℕ) (b : LaidStore p R s₀) (t i
         swap-done p (b .coded) R (b .places) (parse p R s₀) (held-state p R s₀ b .rows-sorted) before coming i (row-at p R s₀ b i (a .row .stored)) one-place-both (T .columns) columns-are j s x (omega (arith, coming-full)) from w ef ew
         y ry (row-long p (kn .cell) coming coming-good)
 
+-- ---- the start, with the name and the key column read
+
+module _ {p : Profile} {R : ℕ} {s₀ : List ℕ} {t : ℕ} {name : Text} {column : ℕ} (x : Begun p R s₀ t name column) {i : ℕ} {row : Row} (pr : ProperRow row) (a : Replaceable p R s₀ t i (cellsOf row)) where
+  swap-below : column < row .count
+  swap-below = omega (arith, x .key, coming-key-below p R s₀ (x .table .held) t i row pr a)
+
+  pub swap-eight : column < 8
+  swap-eight = omega (arith, swap-below, pr .most)
+
+  pub swap-start : ReplaceTurn p R s₀ t i row name (flight row column) 0 s₀
+  swap-start =
+      replaced-start p R s₀ (x .table .held) t i row pr a name (x .named) (x .packed) (flight row column) (flight-cell row pr column swap-below ∙ ap (cellAt (cellsOf row)) (x .key))
+      (flight-proper row pr column swap-below)
+
 -- ---- a turn of the loop
 
-module _ (p : Profile) (R : ℕ) (s₀ : List ℕ) (t i : ℕ) (row : Row) (name : Text) (key : D.Value) (j : ℕ) (s : List ℕ) (x : ReplaceTurn p R s₀ t i row name key j s) (h : j < row .count) where
-  k : Coded p
-  k = x .olds .coded
+module _ {p : Profile} {R : ℕ} {s₀ : List ℕ} {t i : ℕ} {row : Row} {name : Text} {key : D.Value} {j : ℕ} {s : List ℕ} (x : ReplaceTurn p R s₀ t i row name key j s) where
+  -- the record, when no column is left
+  module _ (h : row .count ≤ j) {from w : ℕ} (ef : from ≡ rowsAt p) (ew : w ≡ rowWidth p) where
+    pub swap-place : Place p s₀ s from w i
+    swap-place =
+        place-of (x .held) (replaced-room p R s₀ (x .held) t i row (x .proper) (x .able) j s (x .swaps) h from w ef ew) (replaced-part p R s₀ (x .held) t i row (x .proper) (x .able) j s (x .swaps) h from w ef ew)
+        (replaced-length p R s₀ (x .held) t i row (x .proper) (x .able) j s (x .swaps) h from w ef ew)
 
-  most : R ≤ placesMost
-  most = x .olds .places
+    pub swap-whole : {y : List ℕ} → y ≡ rowBytes (textBytes name) (cellsOf row) ++ drop (25 + row .count * 26) (take (from + i * w + w - (from + i * w)) (drop (from + i * w) s))
+        → putMid (from + i * w) (from + i * w + w - (from + i * w)) s y ≡ image p R (apply (replaced (rowIn p R s₀ i) (inFlight p R s₀ t row)) (parse p R s₀))
+    swap-whole {y} ey = replaced-done p R s₀ (x .held) t i row (x .proper) (x .able) j s (x .swaps) h from w ef ew (textBytes name) y (x .news .named) ey
 
-  mid : Midway p R (parse p R s₀) s
-  mid = x .swaps .mid
+  module _ (h : j < row .count) where
+    k : Coded p
+    k = x .olds .coded
 
-  pub swap-inside : Inside p R s
-  swap-inside = mid-inside p k R most (parse p R s₀) s mid
+    most : R ≤ placesMost
+    most = x .olds .places
 
-  pub swap-table : t < length ((lists p R s) .schemas)
-  swap-table = mid-table p k R most (parse p R s₀) s mid t (tableIn p R s₀ t) (x .table)
+    mid : Midway p R (parse p R s₀) s
+    mid = x .swaps .mid
 
-  pub swap-row : i < length ((lists p R s) .rows)
-  swap-row = mid-row p k R most (parse p R s₀) s mid i (rowIn p R s₀ i) (x .row-at)
+    at-table : nth ((parse p R s₀) .tables) t ≡ some (tableIn p R s₀ t)
+    at-table = table-there p R s₀ t (x .able .row .known)
 
-  pub swap-few : j < p .columns
-  swap-few = column-few p R (tableIn p R s₀ t) (rowIn p R s₀ i) name (row .count) key (x .olds) j h
+    at-row : nth ((parse p R s₀) .rows) i ≡ some (rowIn p R s₀ i)
+    at-row = row-at p R s₀ (x .held) i (x .able .row .stored)
 
-  pub swap-byte : j < 256
-  swap-byte = column-byte p R (tableIn p R s₀ t) (rowIn p R s₀ i) name (row .count) key (x .olds) j h
+    pub swap-eighth : j < 8
+    swap-eighth = omega (arith, x .proper .most)
 
-  pub swap-bytes : (rec : List ℕ) → rec ≡ getD ((lists p R s) .schemas) t [] → TableBytes p rec
-  swap-bytes rec er = mid-table-bytes p k R most (parse p R s₀) s mid t (tableIn p R s₀ t) (x .table) rec er (x .olds .good-table)
+    pub swap-byte : j < 256
+    swap-byte = column-byte p R (tableIn p R s₀ t) (rowIn p R s₀ i) name (row .count) key (x .olds) j h
 
-  pub swap-long : (rec : List ℕ) → rec ≡ getD ((lists p R s) .rows) i [] → length rec ≡ rowWidth p
-  swap-long rec er = mid-row-long p k R most (parse p R s₀) s mid i (rowIn p R s₀ i) (x .row-at) rec er (x .olds .good-row)
+    few-columns : j < p .columns
+    few-columns = column-few p R (tableIn p R s₀ t) (rowIn p R s₀ i) name (row .count) key (x .olds) j h
 
-  module _ (rec : List ℕ) (er : rec ≡ getD ((lists p R s) .schemas) t []) (c : Column) (rc : ColumnRead p rec j c) where
-    column-is : nth ((tableIn p R s₀ t) .columns) j ≡ some (columnOf c)
-    column-is = mid-column p k R most (parse p R s₀) s mid t (tableIn p R s₀ t) (x .table) rec er (x .olds .good-table) j c rc (omega (arith, x .olds .counted))
+    inside : Inside p R s
+    inside = mid-inside p k R most (parse p R s₀) s mid
 
-    abbrev index : List Entry
-    index = indexOf ((parse p R s₀) .tables) (withRow (inFlight p R s₀ t row) ((parse p R s₀) .rows))
+    pub swap-table : Inside p R s × (t < length ((lists p R s) .schemas))
+    swap-table = (inside, mid-table p k R most (parse p R s₀) s mid t (tableIn p R s₀ t) at-table)
 
-    pub swap-past : c .index ≡ false → ReplaceTurn p R s₀ t i row name key (j + 1) s
-    swap-past e =
-        record {
-          few = omega arith;
-          olds = x .olds;
-          news = x .news;
-          table = x .table;
-          row-at = x .row-at;
-          swaps = swaps-past p k R most (parse p R s₀) index (rowIn p R s₀ i) (inFlight p R s₀ t row) ((tableIn p R s₀ t) .columns) j s (x .swaps) (columnOf c) column-is e;
-        }
+    pub swap-row : Inside p R s × (i < length ((lists p R s) .rows))
+    swap-row = (inside, mid-row p k R most (parse p R s₀) s mid i (rowIn p R s₀ i) at-row)
 
-    module _ (e : c .index ≡ true) (rec₁ : List ℕ) (er₁ : rec₁ ≡ getD ((lists p R s) .rows) i []) (ov nv : D.Value) (eo : meaning ov ≡ readValue (drop (nameWidth + j * p .cell) rec₁)) (en : meaning nv ≡ cellAt (cellsOf row) j) where
-      old-cell : meaning ov ≡ cellAt ((rowIn p R s₀ i) .cells) j
-      old-cell = eo ∙ mid-cell p k R most (parse p R s₀) s mid i (rowIn p R s₀ i) (x .row-at) rec₁ er₁ (x .olds .good-row) j (omega (arith, x .olds .full))
+    pub swap-cell : {rec : List ℕ} → rec ≡ getD ((lists p R s) .rows) i [] → Coded p × (length rec ≡ rowWidth p) × (j < p .columns)
+    swap-cell {rec} er = (k, mid-row-long p k R most (parse p R s₀) s mid i (rowIn p R s₀ i) at-row rec er (x .olds .good-row), few-columns)
 
-      old-is : entryOf name j ov key ≡ entryAt (rowIn p R s₀ i) j
-      old-is = entry-is p R (tableIn p R s₀ t) (rowIn p R s₀ i) name (row .count) key (x .olds) j h ov old-cell
+    module _ {rec : List ℕ} (er : rec ≡ getD ((lists p R s) .schemas) t []) where
+      pub swap-read : TableBytes p rec × (j < p .columns)
+      swap-read = (mid-table-bytes p k R most (parse p R s₀) s mid t (tableIn p R s₀ t) at-table rec er (x .olds .good-table), few-columns)
 
-      new-is : entryOf name j nv key ≡ entryAt (inFlight p R s₀ t row) j
-      new-is = entry-is p R (tableIn p R s₀ t) (inFlight p R s₀ t row) name (row .count) key (x .news) j h nv en
+      module _ {c : Column} (rc : ColumnRead p rec j c) where
+        column-is : nth ((tableIn p R s₀ t) .columns) j ≡ some (columnOf c)
+        column-is = mid-column p k R most (parse p R s₀) s mid t (tableIn p R s₀ t) at-table rec er (x .olds .good-table) j c rc (omega (arith, x .olds .counted))
 
-      same-is : same (meaning ov) (meaning nv) ≡ same (cellAt ((rowIn p R s₀ i) .cells) j) (cellAt (cellsOf row) j)
-      same-is = ap (λ (v : Value). same v (meaning nv)) old-cell ∙ ap (same (cellAt ((rowIn p R s₀ i) .cells) j)) en
+        swap-turn : {s₁ s₂ : List ℕ} → Swaps p R (parse p R s₀) (index p R s₀ t row) (rowIn p R s₀ i) (inFlight p R s₀ t row) ((tableIn p R s₀ t) .columns) (j + 1) s₁ → s₂ ≡ s₁ → ReplaceTurn p R s₀ t i row name key (j + 1) s₂
+        swap-turn y e₂ =
+            record {
+              held = x .held;
+              proper = x .proper;
+              able = x .able;
+              few = omega arith;
+              olds = x .olds;
+              news = x .news;
+              swaps = subst (Swaps p R (parse p R s₀) (index p R s₀ t row) (rowIn p R s₀ i) (inFlight p R s₀ t row) ((tableIn p R s₀ t) .columns) (j + 1)) (sym e₂) y;
+            }
 
-      pub swap-requires : Proper ov → Proper nv → Entered p R s × ProperEntry name ov key × ProperEntry name nv key × (same (meaning ov) (meaning nv) ≡ false → entryIn p R (entryOf name j ov key) s ≡ true)
-      swap-requires ho hn = (
-        mid-entered p k R most (parse p R s₀) s mid,
-        record { name = x .olds .packed; value = ho; key = x .olds .proper },
-        record { name = x .olds .packed; value = hn; key = x .olds .proper },
-        λ d.
-            subst (λ (y : Entry). entryIn p R y s ≡ true) (sym old-is)
-            (swaps-there p k R most (parse p R s₀) index (rowIn p R s₀ i) (inFlight p R s₀ t row) ((tableIn p R s₀ t) .columns) j s (x .swaps) (columnOf c) column-is e (sym same-is ∙ d)),
-      )
+        pub swap-past : c .index ≡ false → {s₂ : List ℕ} → s₂ ≡ s → ReplaceTurn p R s₀ t i row name key (j + 1) s₂
+        swap-past e e₂ =
+            swap-turn (swaps-past p k R most (parse p R s₀) (index p R s₀ t row) (rowIn p R s₀ i) (inFlight p R s₀ t row) ((tableIn p R s₀ t) .columns) j s (x .swaps) (columnOf c) column-is e) e₂
 
-      pub swap-next : (y : List ℕ) → Laid p R y (cond (same (meaning ov) (meaning nv)) (lists p R s) (entryExchanged p R (entryOf name j ov key) (entryOf name j nv key) s)) → ReplaceTurn p R s₀ t i row name key (j + 1) y
-      swap-next y l =
-          record {
-            few = omega arith;
-            olds = x .olds;
-            news = x .news;
-            table = x .table;
-            row-at = x .row-at;
-            swaps = swaps-next p k R most (parse p R s₀) index (rowIn p R s₀ i) (inFlight p R s₀ t row) ((tableIn p R s₀ t) .columns) j s (x .swaps) (columnOf c) column-is e
-                (good-entry p R (tableIn p R s₀ t) (inFlight p R s₀ t row) name (row .count) key (x .news) j h) (same (meaning ov) (meaning nv)) (sym same-is) y
-                (subst (λ (z : Entry). Laid p R y (cond (same (meaning ov) (meaning nv)) (lists p R s) (entryExchanged p R z (entryAt (inFlight p R s₀ t row) j) s))) old-is
-                (subst (λ (z : Entry). Laid p R y (cond (same (meaning ov) (meaning nv)) (lists p R s) (entryExchanged p R (entryOf name j ov key) z s))) new-is l));
-          }
+        module _ (e : c .index ≡ true) {rec₁ : List ℕ} (er₁ : rec₁ ≡ getD ((lists p R s) .rows) i []) (z : Cell) (ez : (held z ≡ readValue (drop (nameWidth + j * p .cell) rec₁)) × ProperCell z) where
+          old-cell : meaning (z .value) ≡ cellAt ((rowIn p R s₀ i) .cells) j
+          old-cell = ez .0 ∙ mid-cell p k R most (parse p R s₀) s mid i (rowIn p R s₀ i) at-row rec₁ er₁ (x .olds .good-row) j (omega (arith, x .olds .full))
+
+          new-cell : meaning (flight row j) ≡ cellAt (cellsOf row) j
+          new-cell = flight-cell row (x .proper) j h
+
+          old-is : entryOf name j (z .value) key ≡ entryAt (rowIn p R s₀ i) j
+          old-is = entry-is p R (tableIn p R s₀ t) (rowIn p R s₀ i) name (row .count) key (x .olds) j h (z .value) old-cell
+
+          new-is : entryOf name j (flight row j) key ≡ entryAt (inFlight p R s₀ t row) j
+          new-is = entry-is p R (tableIn p R s₀ t) (inFlight p R s₀ t row) name (row .count) key (x .news) j h (flight row j) new-cell
+
+          same-is : same (meaning (z .value)) (meaning (flight row j)) ≡ same (cellAt ((rowIn p R s₀ i) .cells) j) (cellAt (cellsOf row) j)
+          same-is = ap (λ (v : Value). same v (meaning (flight row j))) old-cell ∙ ap (same (cellAt ((rowIn p R s₀ i) .cells) j)) new-cell
+
+          pub swap-requires : Entered p R s × ProperEntry name (z .value) key × ProperEntry name (flight row j) key × (same (meaning (z .value)) (meaning (flight row j)) ≡ false → entryIn p R (entryOf name j (z .value) key) s ≡ true)
+          swap-requires = (
+            mid-entered p k R most (parse p R s₀) s mid,
+            record { name = x .olds .packed; value = ez .1; key = x .olds .proper },
+            record { name = x .olds .packed; value = flight-proper row (x .proper) j h; key = x .olds .proper },
+            λ d.
+                subst (λ (y : Entry). entryIn p R y s ≡ true) (sym old-is)
+                (swaps-there p k R most (parse p R s₀) (index p R s₀ t row) (rowIn p R s₀ i) (inFlight p R s₀ t row) ((tableIn p R s₀ t) .columns) j s (x .swaps) (columnOf c) column-is e (sym same-is ∙ d)),
+          )
+
+          pub swap-next : {y : List ℕ} → Laid p R y (cond (same (meaning (z .value)) (meaning (flight row j))) (lists p R s) (entryExchanged p R (entryOf name j (z .value) key) (entryOf name j (flight row j) key) s)) → {s₂ : List ℕ} → s₂ ≡ y
+              → ReplaceTurn p R s₀ t i row name key (j + 1) s₂
+          swap-next {y} l e₂ =
+              swap-turn
+              (swaps-next p k R most (parse p R s₀) (index p R s₀ t row) (rowIn p R s₀ i) (inFlight p R s₀ t row) ((tableIn p R s₀ t) .columns) j s (x .swaps) (columnOf c) column-is e
+              (good-entry p R (tableIn p R s₀ t) (inFlight p R s₀ t row) name (row .count) key (x .news) j h) (same (meaning (z .value)) (meaning (flight row j))) (sym same-is) y
+              (subst (λ (q : Entry). Laid p R y (cond (same (meaning (z .value)) (meaning (flight row j))) (lists p R s) (entryExchanged p R q (entryAt (inFlight p R s₀ t row) j) s))) old-is
+              (subst (λ (q : Entry). Laid p R y (cond (same (meaning (z .value)) (meaning (flight row j))) (lists p R s) (entryExchanged p R (entryOf name j (z .value) key) q s))) new-is l)))
+              e₂

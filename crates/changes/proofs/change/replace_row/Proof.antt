@@ -1,19 +1,8 @@
 -- `changes::change::replace_row` meets its contract. Assumes nothing.
-use mathlib.Core.Path.{sym, ap, _∙_, subst}
-use mathlib.Core.Logic.{⊎-elim}
-use Prim.Native.Nat.{_+_, _-_, _*_}
+use Prim.Native.Nat.{_-_, _<_}
 use native.Mathlib.Omega.{arith}
-use lib.ListN.{getD}
-use borrow.Rule.Slice.PartMut.{same-len-mid}
-use Rattle.values.specs.Meaning.{textBytes}
-use Rattle.values.specs.declared.value.Value.the-variants.{Null}
-use Rattle.rules.specs.State.{cellAt}
-use Rattle.rules.proofs.Widths.{store-most}
-use Rattle.laid.specs.Row.{cellsOf}
-use Rattle.laid.proofs.Stores.{held-inside}
-use Rattle.laid.proofs.RowFacts.{start-table, start-least, start-name, start-key}
-use Rattle.changes.proofs.RowAdded.{flight-cell, flight-proper}
-use Rattle.changes.proofs.RowReplaced.{ReplaceTurn, coming-key-below, replace-start, replace-room, replace-part, replace-length, replace-done, swap-inside, swap-table, swap-row, swap-few, swap-byte, swap-bytes, swap-long, swap-past, swap-requires, swap-next}
+use Rattle.changes.proofs.Changing.{falls, byte-fits, next-fits, by-arm, TableOf, Begun, Place, record-asked, record-least, begun, place-back, write-asked}
+use Rattle.changes.proofs.RowReplaced.{ReplaceTurn, swap-eight, swap-start, swap-place, swap-whole, swap-eighth, swap-byte, swap-table, swap-row, swap-cell, swap-read, swap-past, swap-requires, swap-next}
 use Rattle.changes.proofs.change.replace_row.Statement.{statement}
 use Rattle.changes.proofs.change.replace_row.Tie as tie
 
@@ -23,241 +12,116 @@ Inv-loop s₀ p places t i row name column cells key count j₀ s j = ReplaceTur
 abbrev μ-loop : tie.MeasureT-loop
 μ-loop s₀ p places t i row name column cells key count j₀ s j = count - j
 
+-- the table
+table : (c : tie.Start Inv-loop μ-loop) → TableOf (c .args .p) (c .args .places) (c .args .s .now) (c .args .t)
+table c = record { held = c .pre .0; known = c .pre .2 .row .known }
+
+-- its name and key column, read
+opened : (c : tie.After-key-column Inv-loop μ-loop)
+    → let a = c .before .before .before .before .before .before .before .args in
+    Begun (a .p) (a .places) (a .s .now) (a .t) (c .before .before .before .read-name .result) (c .key-column .result)
+opened c =
+    begun (table (c .before .before .before .before .before .before .before)) (c .before .before .before .before .table-record .ensures)
+    (c .before .before .before .read-name .ensures) (c .before .table-record2 .ensures) (c .key-column .ensures)
+
+few : (c : tie.After-key-column Inv-loop μ-loop) → c .key-column .result < 8
+few c = swap-eight (opened c) (c .before .before .before .before .before .before .before .pre .1) (c .before .before .before .before .before .before .before .pre .2)
+
+-- the place of the row
+place : (c : tie.After-row-width Inv-loop μ-loop)
+    → let l = c .before .before .before in
+    let a = l .before .before .before .before .before .before .before .before .before .before .args in
+    Place (a .p) (a .s .now) (l .loop .s) (c .before .rows-at .result) (c .row-width .result) (a .i)
+place c = swap-place (c .before .before .before .loop .inv) (c .before .before .loop-test .left) (c .before .rows-at .ensures) (c .row-width .ensures)
+
 table-record-requires : tie.Need-table-record-requires Inv-loop μ-loop
-table-record-requires c κs =
-    let b = c .before .before in
-    let a = b .args in
-    (held-inside (a .p) (a .places) (a .s .now) (b .pre .0), start-table (a .p) (a .places) (a .s .now) (b .pre .0) (a .t) (b .pre .2 .row .known))
+table-record-requires c κs = record-asked (table (c .before .before))
 
 read-name-requires : tie.Need-read-name-requires Inv-loop μ-loop
-read-name-requires c κs =
-    let b = c .before .before .before in
-    let a = b .args in
-    let r = c .table-record in
-    omega (arith, start-least (a .p) (a .places) (a .s .now) (b .pre .0) (a .t) (b .pre .2 .row .known) (r .result .now) (r .ensures))
+read-name-requires c κs = omega (arith, record-least (table (c .before .before .before)) (c .table-record .ensures))
 
 table-record-requires-2 : tie.Need-table-record-requires-2 Inv-loop μ-loop
-table-record-requires-2 c κs =
-    let b = c .before .before .before .before .before in
-    let a = b .args in
-    (held-inside (a .p) (a .places) (a .s .now) (b .pre .0), start-table (a .p) (a .places) (a .s .now) (b .pre .0) (a .t) (b .pre .2 .row .known))
+table-record-requires-2 c κs = record-asked (table (c .before .before .before .before .before))
 
 key-column-requires : tie.Need-key-column-requires Inv-loop μ-loop
-key-column-requires c κs =
-    let b = c .before .before .before .before .before .before in
-    let a = b .args in
-    let r = c .table-record2 in
-    omega (arith, start-least (a .p) (a .places) (a .s .now) (b .pre .0) (a .t) (b .pre .2 .row .known) (r .result .now) (r .ensures))
+key-column-requires c κs = omega (arith, record-least (table (c .before .before .before .before .before .before)) (c .table-record2 .ensures))
 
 mul-k : tie.Need-mul-k Inv-loop μ-loop
-mul-k c =
-    let b = c .before .before .before .before .before .before .before .before in
-    let a = b .args in
-    let k = c .before .key-column in
-    let r = c .before .before .table-record2 in
-    omega (arith, k .ensures, start-key (a .p) (a .places) (a .s .now) (b .pre .0) (a .t) (b .pre .2 .row .known) (r .result .now) (r .ensures), coming-key-below (a .p) (a .places) (a .s .now) (b .pre .0) (a .t) (a .i) (a .row) (b .pre .1) (b .pre .2), b .pre .1 .most)
+mul-k c = omega (arith, few (c .before))
 
 array-copy-out-k : tie.Need-array-copy-out-k Inv-loop μ-loop
-array-copy-out-k c =
-    let b = c .before .before .before .before .before .before .before .before in
-    let a = b .args in
-    let k = c .before .key-column in
-    let r = c .before .before .table-record2 in
-    omega (arith, k .ensures, start-key (a .p) (a .places) (a .s .now) (b .pre .0) (a .t) (b .pre .2 .row .known) (r .result .now) (r .ensures), coming-key-below (a .p) (a .places) (a .s .now) (b .pre .0) (a .t) (a .i) (a .row) (b .pre .1) (b .pre .2), b .pre .1 .most)
+array-copy-out-k c = omega (arith, few (c .before))
 
 loop-holds : tie.Need-loop-holds Inv-loop μ-loop
 loop-holds c =
-    let q = c in
-    let n = q .before .before .before .before .before .read-name in
-    let r1 = q .before .before .before .before .before .before .table-record in
-    let k = q .before .before .key-column in
-    let r2 = q .before .before .before .table-record2 in
-    let b = q .before .before .before .before .before .before .before .before .before in
-    let a = b .args in
-    replace-start (a .p) (a .places) (a .s .now) (b .pre .0) (a .t) (a .i) (a .row) (b .pre .1) (b .pre .2) (n .result) (n .ensures .0 ∙ start-name (a .p) (a .places) (a .s .now) (b .pre .0) (a .t) (b .pre .2 .row .known) (r1 .result .now) (r1 .ensures)) (n .ensures .1) (getD (a .row .cells) (k .result) (record { value = Null }) .value) (flight-cell (a .row) (b .pre .1) (k .result) (omega (arith, k .ensures, start-key (a .p) (a .places) (a .s .now) (b .pre .0) (a .t) (b .pre .2 .row .known) (r2 .result .now) (r2 .ensures), coming-key-below (a .p) (a .places) (a .s .now) (b .pre .0) (a .t) (a .i) (a .row) (b .pre .1) (b .pre .2))) ∙ ap (cellAt (cellsOf (a .row))) (k .ensures ∙ start-key (a .p) (a .places) (a .s .now) (b .pre .0) (a .t) (b .pre .2 .row .known) (r2 .result .now) (r2 .ensures))) (flight-proper (a .row) (b .pre .1) (k .result) (omega (arith, k .ensures, start-key (a .p) (a .places) (a .s .now) (b .pre .0) (a .t) (b .pre .2 .row .known) (r2 .result .now) (r2 .ensures), coming-key-below (a .p) (a .places) (a .s .now) (b .pre .0) (a .t) (a .i) (a .row) (b .pre .1) (b .pre .2))))
+    swap-start (opened (c .before .before)) (c .before .before .before .before .before .before .before .before .before .pre .1)
+    (c .before .before .before .before .before .before .before .before .before .pre .2)
 
 table-record-requires-3 : tie.Need-table-record-requires-3 Inv-loop μ-loop
-table-record-requires-3 c κs =
-    let l = c .before .before in
-    let q = l .before in
-    let n = q .before .before .before .before .before .read-name in
-    let r1 = q .before .before .before .before .before .before .table-record in
-    let k = q .before .before .key-column in
-    let r2 = q .before .before .before .table-record2 in
-    let b = q .before .before .before .before .before .before .before .before .before in
-    let a = b .args in
-    (swap-inside (a .p) (a .places) (a .s .now) (a .t) (a .i) (a .row) (n .result) (getD (a .row .cells) (k .result) (record { value = Null }) .value) (l .loop .j) (l .loop .s) (l .loop .inv) (c .before .loop-test .taken), swap-table (a .p) (a .places) (a .s .now) (a .t) (a .i) (a .row) (n .result) (getD (a .row .cells) (k .result) (record { value = Null }) .value) (l .loop .j) (l .loop .s) (l .loop .inv) (c .before .loop-test .taken))
+table-record-requires-3 c κs = swap-table (c .before .before .loop .inv) (c .before .loop-test .taken)
 
 read-column-requires : tie.Need-read-column-requires Inv-loop μ-loop
-read-column-requires c κs =
-    let l = c .before .before .before in
-    let q = l .before in
-    let n = q .before .before .before .before .before .read-name in
-    let r1 = q .before .before .before .before .before .before .table-record in
-    let k = q .before .before .key-column in
-    let r2 = q .before .before .before .table-record2 in
-    let b = q .before .before .before .before .before .before .before .before .before in
-    let a = b .args in
-    let r = c .table-record3 in
-    (swap-bytes (a .p) (a .places) (a .s .now) (a .t) (a .i) (a .row) (n .result) (getD (a .row .cells) (k .result) (record { value = Null }) .value) (l .loop .j) (l .loop .s) (l .loop .inv) (c .before .before .loop-test .taken) (r .result .now) (r .ensures), swap-few (a .p) (a .places) (a .s .now) (a .t) (a .i) (a .row) (n .result) (getD (a .row .cells) (k .result) (record { value = Null }) .value) (l .loop .j) (l .loop .s) (l .loop .inv) (c .before .before .loop-test .taken))
+read-column-requires c κs = swap-read (c .before .before .before .loop .inv) (c .before .before .loop-test .taken) (c .table-record3 .ensures)
 
 row-record-requires : tie.Need-row-record-requires Inv-loop μ-loop
-row-record-requires c κs =
-    let l = c .before .before .before .before .before .before in
-    let q = l .before in
-    let n = q .before .before .before .before .before .read-name in
-    let r1 = q .before .before .before .before .before .before .table-record in
-    let k = q .before .before .key-column in
-    let r2 = q .before .before .before .table-record2 in
-    let b = q .before .before .before .before .before .before .before .before .before in
-    let a = b .args in
-    (swap-inside (a .p) (a .places) (a .s .now) (a .t) (a .i) (a .row) (n .result) (getD (a .row .cells) (k .result) (record { value = Null }) .value) (l .loop .j) (l .loop .s) (l .loop .inv) (c .before .before .before .before .before .loop-test .taken), swap-row (a .p) (a .places) (a .s .now) (a .t) (a .i) (a .row) (n .result) (getD (a .row .cells) (k .result) (record { value = Null }) .value) (l .loop .j) (l .loop .s) (l .loop .inv) (c .before .before .before .before .before .loop-test .taken))
+row-record-requires c κs = swap-row (c .before .before .before .before .before .before .loop .inv) (c .before .before .before .before .before .loop-test .taken)
 
 cell-in-requires : tie.Need-cell-in-requires Inv-loop μ-loop
 cell-in-requires c κs =
-    let l = c .before .before .before .before .before .before .before in
-    let q = l .before in
-    let n = q .before .before .before .before .before .read-name in
-    let r1 = q .before .before .before .before .before .before .table-record in
-    let k = q .before .before .key-column in
-    let r2 = q .before .before .before .table-record2 in
-    let b = q .before .before .before .before .before .before .before .before .before in
-    let a = b .args in
-    let r = c .row-record in
-    (b .pre .0 .coded, swap-long (a .p) (a .places) (a .s .now) (a .t) (a .i) (a .row) (n .result) (getD (a .row .cells) (k .result) (record { value = Null }) .value) (l .loop .j) (l .loop .s) (l .loop .inv) (c .before .before .before .before .before .before .loop-test .taken) (r .result .now) (r .ensures), swap-few (a .p) (a .places) (a .s .now) (a .t) (a .i) (a .row) (n .result) (getD (a .row .cells) (k .result) (record { value = Null }) .value) (l .loop .j) (l .loop .s) (l .loop .inv) (c .before .before .before .before .before .before .loop-test .taken))
+    swap-cell (c .before .before .before .before .before .before .before .loop .inv)
+    (c .before .before .before .before .before .before .loop-test .taken) (c .row-record .ensures)
 
 mul-y : tie.Need-mul-y Inv-loop μ-loop
 mul-y c =
-    let l = c .before .before .before .before .before .before .before .before in
-    let q = l .before in
-    let n = q .before .before .before .before .before .read-name in
-    let r1 = q .before .before .before .before .before .before .table-record in
-    let k = q .before .before .key-column in
-    let r2 = q .before .before .before .table-record2 in
-    let b = q .before .before .before .before .before .before .before .before .before in
-    let a = b .args in
-    omega (arith, c .before .before .before .before .before .before .before .loop-test .taken, b .pre .1 .most)
+    omega
+    (arith, swap-eighth (c .before .before .before .before .before .before .before .before .loop .inv) (c .before .before .before .before .before .before .before .loop-test .taken))
 
 array-copy-out-y : tie.Need-array-copy-out-y Inv-loop μ-loop
 array-copy-out-y c =
-    let l = c .before .before .before .before .before .before .before .before in
-    let q = l .before in
-    let n = q .before .before .before .before .before .read-name in
-    let r1 = q .before .before .before .before .before .before .table-record in
-    let k = q .before .before .key-column in
-    let r2 = q .before .before .before .table-record2 in
-    let b = q .before .before .before .before .before .before .before .before .before in
-    let a = b .args in
-    omega (arith, c .before .before .before .before .before .before .before .loop-test .taken, b .pre .1 .most)
+    omega
+    (arith, swap-eighth (c .before .before .before .before .before .before .before .before .loop .inv) (c .before .before .before .before .before .before .before .loop-test .taken))
 
 cast-exchange : tie.Need-cast-exchange Inv-loop μ-loop
 cast-exchange c =
-    let l = c .before .before .before .before .before .before .before .before .before .before in
-    let q = l .before in
-    let n = q .before .before .before .before .before .read-name in
-    let r1 = q .before .before .before .before .before .before .table-record in
-    let k = q .before .before .key-column in
-    let r2 = q .before .before .before .table-record2 in
-    let b = q .before .before .before .before .before .before .before .before .before in
-    let a = b .args in
-    omega (arith, swap-byte (a .p) (a .places) (a .s .now) (a .t) (a .i) (a .row) (n .result) (getD (a .row .cells) (k .result) (record { value = Null }) .value) (l .loop .j) (l .loop .s) (l .loop .inv) (c .before .before .before .before .before .before .before .before .before .loop-test .taken))
+    byte-fits
+    (swap-byte (c .before .before .before .before .before .before .before .before .before .before .loop .inv) (c .before .before .before .before .before .before .before .before .before .loop-test .taken))
 
 exchange-requires : tie.Need-exchange-requires Inv-loop μ-loop
 exchange-requires c κs =
-    let l = c .before .before .before .before .before .before .before .before .before .before in
-    let q = l .before in
-    let n = q .before .before .before .before .before .read-name in
-    let r1 = q .before .before .before .before .before .before .table-record in
-    let k = q .before .before .key-column in
-    let r2 = q .before .before .before .table-record2 in
-    let b = q .before .before .before .before .before .before .before .before .before in
-    let a = b .args in
-    let r = c .before .before .before .before .before .before .before .table-record3 in
-    let g = c .before .before .before .before .before .before .read-column in
-    let o = c .before .before .before .row-record in
-    let v = c .before .before .cell-in in
-    swap-requires (a .p) (a .places) (a .s .now) (a .t) (a .i) (a .row) (n .result) (getD (a .row .cells) (k .result) (record { value = Null }) .value) (l .loop .j) (l .loop .s) (l .loop .inv) (c .before .before .before .before .before .before .before .before .before .loop-test .taken) (r .result .now) (r .ensures) (g .result) (g .ensures) (c .before .before .before .before .before .if1 .taken) (o .result .now) (o .ensures) (v .result .value) (getD (a .row .cells) (l .loop .j) (record { value = Null }) .value) (v .ensures .0)
-    (flight-cell (a .row) (b .pre .1) (l .loop .j) (c .before .before .before .before .before .before .before .before .before .loop-test .taken)) (v .ensures .1) (flight-proper (a .row) (b .pre .1) (l .loop .j) (c .before .before .before .before .before .before .before .before .before .loop-test .taken))
+    swap-requires (c .before .before .before .before .before .before .before .before .before .before .loop .inv)
+    (c .before .before .before .before .before .before .before .before .before .loop-test .taken)
+    (c .before .before .before .before .before .before .before .table-record3 .ensures)
+    (c .before .before .before .before .before .before .read-column .ensures) (c .before .before .before .before .before .if1 .taken)
+    (c .before .before .before .row-record .ensures) (c .before .before .cell-in .result) (c .before .before .cell-in .ensures)
 
 add-j : tie.Need-add-j Inv-loop μ-loop
-add-j c = omega arith
+add-j c = next-fits (swap-byte (c .before .before .before .before .before .loop .inv) (c .before .before .before .before .loop-test .taken))
 
 loop-less : tie.Need-loop-less Inv-loop μ-loop
-loop-less c = omega arith
+loop-less c = falls (c .before .before .before .before .loop-test .taken)
 
 loop-again : tie.Need-loop-again Inv-loop μ-loop
 loop-again c =
-    let l = c .before .before .before .before .before in
-    let q = l .before in
-    let n = q .before .before .before .before .before .read-name in
-    let r1 = q .before .before .before .before .before .before .table-record in
-    let k = q .before .before .key-column in
-    let r2 = q .before .before .before .table-record2 in
-    let b = q .before .before .before .before .before .before .before .before .before in
-    let a = b .args in
-    let r = c .before .before .table-record3 in
-    let g = c .before .read-column in
-    ⊎-elim
-    (λ w. subst (ReplaceTurn (a .p) (a .places) (a .s .now) (a .t) (a .i) (a .row) (n .result) (getD (a .row .cells) (k .result) (record { value = Null }) .value) (l .loop .j + 1)) (sym (w .9))
-    (swap-next (a .p) (a .places) (a .s .now) (a .t) (a .i) (a .row) (n .result) (getD (a .row .cells) (k .result) (record { value = Null }) .value) (l .loop .j) (l .loop .s) (l .loop .inv) (c .before .before .before .before .loop-test .taken) (r .result .now) (r .ensures) (g .result) (g .ensures) (w .0 .taken) (w .2 .result .now) (w .2 .ensures) (w .3 .result .value) (getD (a .row .cells) (l .loop .j) (record { value = Null }) .value) (w .3 .ensures .0)
-    (flight-cell (a .row) (b .pre .1) (l .loop .j) (c .before .before .before .before .loop-test .taken)) (w .6 .last .0) (w .6 .ensures)))
-    (λ w. subst (ReplaceTurn (a .p) (a .places) (a .s .now) (a .t) (a .i) (a .row) (n .result) (getD (a .row .cells) (k .result) (record { value = Null }) .value) (l .loop .j + 1)) (sym (w .1))
-    (swap-past (a .p) (a .places) (a .s .now) (a .t) (a .i) (a .row) (n .result) (getD (a .row .cells) (k .result) (record { value = Null }) .value) (l .loop .j) (l .loop .s) (l .loop .inv) (c .before .before .before .before .loop-test .taken) (r .result .now) (r .ensures) (g .result) (g .ensures) (w .0 .left)))
-    (c .if1 .came)
+    by-arm (c .if1 .came)
+    (λ w. swap-next (c .before .before .before .before .before .loop .inv) (c .before .before .before .before .loop-test .taken)
+    (c .before .before .table-record3 .ensures) (c .before .read-column .ensures) (w .0 .taken) (w .2 .ensures) (w .3 .result) (w .3 .ensures) (w .6 .ensures) (w .9))
+    (λ w. swap-past (c .before .before .before .before .before .loop .inv) (c .before .before .before .before .loop-test .taken)
+    (c .before .before .table-record3 .ensures) (c .before .read-column .ensures) (w .0 .left) (w .1))
 
 rows-at-requires : tie.Need-rows-at-requires Inv-loop μ-loop
-rows-at-requires c κs =
-    let b = c .before .before .before .before .before .before .before .before .before .before .before in
-    let a = b .args in
-    b .pre .0 .coded .known
+rows-at-requires c κs = c .before .loop .inv .held .coded .known
 
 row-width-requires : tie.Need-row-width-requires Inv-loop μ-loop
-row-width-requires c κs =
-    let b = c .before .before .before .before .before .before .before .before .before .before .before .before in
-    let a = b .args in
-    b .pre .0 .coded .known
+row-width-requires c κs = c .before .before .loop .inv .held .coded .known
 
 mul-a : tie.Need-mul-a Inv-loop μ-loop
-mul-a c =
-    let l = c .before .before .before in
-    let q = l .before in
-    let n = q .before .before .before .before .before .read-name in
-    let r1 = q .before .before .before .before .before .before .table-record in
-    let k = q .before .before .key-column in
-    let r2 = q .before .before .before .table-record2 in
-    let b = q .before .before .before .before .before .before .before .before .before in
-    let a = b .args in
-    let f = c .before .rows-at in
-    let w = c .row-width in
-    omega (arith, replace-room (a .p) (a .places) (a .s .now) (b .pre .0) (a .t) (a .i) (a .row) (b .pre .1) (b .pre .2) (l .loop .j) (l .loop .s) (l .loop .inv .swaps) (c .before .before .loop-test .left) (f .result) (w .result) (f .ensures) (w .ensures), replace-length (a .p) (a .places) (a .s .now) (b .pre .0) (a .t) (a .i) (a .row) (b .pre .1) (b .pre .2) (l .loop .j) (l .loop .s) (l .loop .inv .swaps) (c .before .before .loop-test .left) (f .result) (w .result) (f .ensures) (w .ensures), held-inside (a .p) (a .places) (a .s .now) (b .pre .0) .long, store-most (a .p) (b .pre .0 .coded .known) (a .places) (b .pre .0 .places))
+mul-a c = omega (arith, place c .small)
 
 add-a : tie.Need-add-a Inv-loop μ-loop
-add-a c =
-    let l = c .before .before .before in
-    let q = l .before in
-    let n = q .before .before .before .before .before .read-name in
-    let r1 = q .before .before .before .before .before .before .table-record in
-    let k = q .before .before .key-column in
-    let r2 = q .before .before .before .table-record2 in
-    let b = q .before .before .before .before .before .before .before .before .before in
-    let a = b .args in
-    let f = c .before .rows-at in
-    let w = c .row-width in
-    omega (arith, replace-room (a .p) (a .places) (a .s .now) (b .pre .0) (a .t) (a .i) (a .row) (b .pre .1) (b .pre .2) (l .loop .j) (l .loop .s) (l .loop .inv .swaps) (c .before .before .loop-test .left) (f .result) (w .result) (f .ensures) (w .ensures), replace-length (a .p) (a .places) (a .s .now) (b .pre .0) (a .t) (a .i) (a .row) (b .pre .1) (b .pre .2) (l .loop .j) (l .loop .s) (l .loop .inv .swaps) (c .before .before .loop-test .left) (f .result) (w .result) (f .ensures) (w .ensures), held-inside (a .p) (a .places) (a .s .now) (b .pre .0) .long, store-most (a .p) (b .pre .0 .coded .known) (a .places) (b .pre .0 .places))
+add-a c = omega (arith, place c .small)
 
 add-e : tie.Need-add-e Inv-loop μ-loop
-add-e c =
-    let l = c .before .before .before in
-    let q = l .before in
-    let n = q .before .before .before .before .before .read-name in
-    let r1 = q .before .before .before .before .before .before .table-record in
-    let k = q .before .before .key-column in
-    let r2 = q .before .before .before .table-record2 in
-    let b = q .before .before .before .before .before .before .before .before .before in
-    let a = b .args in
-    let f = c .before .rows-at in
-    let w = c .row-width in
-    omega (arith, replace-room (a .p) (a .places) (a .s .now) (b .pre .0) (a .t) (a .i) (a .row) (b .pre .1) (b .pre .2) (l .loop .j) (l .loop .s) (l .loop .inv .swaps) (c .before .before .loop-test .left) (f .result) (w .result) (f .ensures) (w .ensures), replace-length (a .p) (a .places) (a .s .now) (b .pre .0) (a .t) (a .i) (a .row) (b .pre .1) (b .pre .2) (l .loop .j) (l .loop .s) (l .loop .inv .swaps) (c .before .before .loop-test .left) (f .result) (w .result) (f .ensures) (w .ensures), held-inside (a .p) (a .places) (a .s .now) (b .pre .0) .long, store-most (a .p) (b .pre .0 .coded .known) (a .places) (b .pre .0 .places))
+add-e c = omega (arith, place c .small)
 
 sub-write-row : tie.Need-sub-write-row Inv-loop μ-loop
 sub-write-row c = omega arith
@@ -266,63 +130,19 @@ part-write-row-start : tie.Need-part-write-row-start Inv-loop μ-loop
 part-write-row-start c = omega arith
 
 part-write-row-end : tie.Need-part-write-row-end Inv-loop μ-loop
-part-write-row-end c =
-    let l = c .before .before .before in
-    let q = l .before in
-    let n = q .before .before .before .before .before .read-name in
-    let r1 = q .before .before .before .before .before .before .table-record in
-    let k = q .before .before .key-column in
-    let r2 = q .before .before .before .table-record2 in
-    let b = q .before .before .before .before .before .before .before .before .before in
-    let a = b .args in
-    let f = c .before .rows-at in
-    let w = c .row-width in
-    omega (arith, replace-room (a .p) (a .places) (a .s .now) (b .pre .0) (a .t) (a .i) (a .row) (b .pre .1) (b .pre .2) (l .loop .j) (l .loop .s) (l .loop .inv .swaps) (c .before .before .loop-test .left) (f .result) (w .result) (f .ensures) (w .ensures))
+part-write-row-end c = place c .inside
 
 write-row-requires : tie.Need-write-row-requires Inv-loop μ-loop
-write-row-requires c κs =
-    let l = c .before .before .before .before in
-    let q = l .before in
-    let n = q .before .before .before .before .before .read-name in
-    let r1 = q .before .before .before .before .before .before .table-record in
-    let k = q .before .before .key-column in
-    let r2 = q .before .before .before .table-record2 in
-    let b = q .before .before .before .before .before .before .before .before .before in
-    let a = b .args in
-    let f = c .before .before .rows-at in
-    let w = c .before .row-width in
-    (b .pre .0 .coded, replace-part (a .p) (a .places) (a .s .now) (b .pre .0) (a .t) (a .i) (a .row) (b .pre .1) (b .pre .2) (l .loop .j) (l .loop .s) (l .loop .inv .swaps) (c .before .before .before .loop-test .left) (f .result) (w .result) (f .ensures) (w .ensures), n .ensures .1, b .pre .1, omega (arith, l .loop .inv .olds .full, l .loop .inv .olds .good-row .few))
+write-row-requires c κs = write-asked (c .before .before .before .before .loop .inv .news) (c .before .before .before .before .loop .inv .proper) (place (c .before))
 
 same-length : tie.Need-same-length Inv-loop μ-loop
-same-length c =
-    let l = c .before .before .before .before .before .before .before in
-    let q = l .before in
-    let n = q .before .before .before .before .before .read-name in
-    let r1 = q .before .before .before .before .before .before .table-record in
-    let k = q .before .before .key-column in
-    let r2 = q .before .before .before .table-record2 in
-    let b = q .before .before .before .before .before .before .before .before .before in
-    let a = b .args in
-    let f = c .before .before .before .before .before .rows-at in
-    let w = c .before .before .before .before .row-width in
-    let y = c .before .before .write-row in
-    same-len-mid (f .result + a .i * w .result) (f .result + a .i * w .result + w .result - (f .result + a .i * w .result)) (l .loop .s) (y .last .0) (y .kept .0)
-    ∙ replace-length (a .p) (a .places) (a .s .now) (b .pre .0) (a .t) (a .i) (a .row) (b .pre .1) (b .pre .2) (l .loop .j) (l .loop .s) (l .loop .inv .swaps) (c .before .before .before .before .before .before .loop-test .left) (f .result) (w .result) (f .ensures) (w .ensures)
+same-length c = place-back (place (c .before .before .before .before)) (c .before .before .write-row .last .0) (c .before .before .write-row .kept .0)
 
 returns : tie.Need-returns Inv-loop μ-loop
 returns c =
-    let l = c .before .before .before .before .before .before .before in
-    let q = l .before in
-    let n = q .before .before .before .before .before .read-name in
-    let r1 = q .before .before .before .before .before .before .table-record in
-    let k = q .before .before .key-column in
-    let r2 = q .before .before .before .table-record2 in
-    let b = q .before .before .before .before .before .before .before .before .before in
-    let a = b .args in
-    let f = c .before .before .before .before .before .rows-at in
-    let w = c .before .before .before .before .row-width in
-    let y = c .before .before .write-row in
-    replace-done (a .p) (a .places) (a .s .now) (b .pre .0) (a .t) (a .i) (a .row) (b .pre .1) (b .pre .2) (l .loop .j) (l .loop .s) (l .loop .inv .swaps) (c .before .before .before .before .before .before .loop-test .left) (f .result) (w .result) (f .ensures) (w .ensures) (textBytes (n .result)) (y .last .0) (n .ensures .0 ∙ start-name (a .p) (a .places) (a .s .now) (b .pre .0) (a .t) (b .pre .2 .row .known) (r1 .result .now) (r1 .ensures)) (y .ensures)
+    swap-whole (c .before .before .before .before .before .before .before .loop .inv)
+    (c .before .before .before .before .before .before .loop-test .left) (c .before .before .before .before .before .rows-at .ensures)
+    (c .before .before .before .before .row-width .ensures) (c .before .before .write-row .ensures)
 
 pub replace-row-spec : {M : Type 1} → statement M
 replace-row-spec =
