@@ -5,7 +5,7 @@ use Prim.Native.Nat.{ℕ, zero, suc, _+_, _-_, _*_, _/_, _≤_, _<_, zero-le, Or
 use native.Mathlib.Nat.{not-suc-le-zero, le-of-suc-le-suc}
 use native.Mathlib.Omega.{arith}
 use mathlib.Core.List.{List, [], _∷_, map}
-use lib.ListN.{length, take, drop, getD}
+use lib.ListN.{length, take, drop, getD, length-take, length-drop}
 use Rattle.values.specs.Basic.{isLt}
 use Rattle.values.specs.Records.{records}
 use Rattle.values.specs.Search.{SearchIn}
@@ -67,6 +67,13 @@ module _ {A B : Type 0} (f : A → B) (p : B → Bool) where
   falls-map [] h = tt
   falls-map (x ∷ xs) h = (λ e. count-map xs ∙ h .0 e, falls-map xs (h .1))
 
+-- ---- a turn of the search brings lo and hi nearer
+pub up-less : (lo hi : ℕ) → lo < hi → hi - (lo + (hi - lo) / 2 + 1) < hi - lo
+up-less lo hi l = omega arith
+
+pub down-less : (lo hi : ℕ) → lo < hi → lo + (hi - lo) / 2 - lo < hi - lo
+down-less lo hi l = omega arith
+
 -- ---- the search: lo and hi bracket the number of records before the probe, as `cmp` tells
 
 pub record Bracket (cmp : List ℕ → Ordering) (s : List ℕ) (count w lo hi : ℕ) : Type 0 where
@@ -93,6 +100,10 @@ module _ (cmp : List ℕ → Ordering) (s : List ℕ) (count w : ℕ) where
 
       pub middle-fits : (lo + (hi - lo) / 2) * w + w ≤ length s
       middle-fits = place-fits (lo + (hi - lo) / 2) count w (length s) inside (ok .inside)
+
+      -- what the width has room for, the part in the middle has
+      pub middle-holds : (n : ℕ) → n ≤ w → n ≤ length (take ((lo + (hi - lo) / 2) * w + w - (lo + (hi - lo) / 2) * w) (drop ((lo + (hi - lo) / 2) * w) s))
+      middle-holds n h = simp (length-take, length-drop) (omega (arith, middle-fits))
 
       module _ (o : Ordering)
           (e : o ≡ cmp (take ((lo + (hi - lo) / 2) * w + w - (lo + (hi - lo) / 2) * w) (drop ((lo + (hi - lo) / 2) * w) s))) where

@@ -3,14 +3,14 @@ use mathlib.Core.Path.{ap}
 use Prim.Native.Nat.{_≤_, _+_, _*_, _-_, _/_}
 use native.Mathlib.Omega.{arith}
 use borrow.Author.Needs.{needs}
-use lib.ListN.{length, length-take, length-drop}
+use lib.ListN.{length}
 use Rattle.values.specs.Cell.{cellWidth}
 use Rattle.values.specs.Basic.{isLt}
 use Rattle.values.specs.Meaning.{ordering, textBytes, meaning}
 use Rattle.values.specs.Search.{cmpEntered}
 use Rattle.values.specs.declared.value.Order.{Order}
 use Rattle.values.proofs.Answers.{not-less}
-use Rattle.values.proofs.Halving.{Bracket, bracket-start, bracket-up, bracket-down, bracket-end, middle-fits}
+use Rattle.values.proofs.Halving.{Bracket, bracket-start, bracket-up, bracket-down, bracket-end, middle-fits, middle-holds, up-less, down-less}
 use Rattle.values.proofs.search.entered_before.Statement.{statement}
 use Rattle.values.proofs.search.entered_before.Tie as tie
 
@@ -53,8 +53,10 @@ part-compare-entered-end c = within c
 
 compare-entered-requires : tie.Need-compare-entered-requires Inv-loop μ-loop
 compare-entered-requires c κs =
-    let p = c .before .before .before .before .pre .0 in
-    (simp (length-take, length-drop) (omega (arith, within (c .before))), p .1, p .2, p .3)
+    let t = c .before in
+    let s = t .before .before .before in
+    let p = s .pre .0 in
+    (middle-holds _ _ _ _ _ _ (t .before .loop .inv) (t .loop-test .taken) (s .pre .1) _ (p .0), p .1, p .2, p .3)
 
 enum-told : tie.Need-enum-told Inv-loop μ-loop
 enum-told c = search needs
@@ -63,7 +65,7 @@ add-lo : tie.Need-add-lo Inv-loop μ-loop
 add-lo c = omega arith
 
 loop-less : tie.Need-loop-less Inv-loop μ-loop
-loop-less c = omega arith
+loop-less c = up-less _ _ (c .before .before .before .before .loop-test .taken)
 
 loop-again : tie.Need-loop-again Inv-loop μ-loop
 loop-again c =
@@ -73,7 +75,7 @@ loop-again c =
     (ap (λ (o : Order). isLt (ordering o)) (c .enum-told .given .1))
 
 loop-less-2 : tie.Need-loop-less-2 Inv-loop μ-loop
-loop-less-2 c = omega arith
+loop-less-2 c = down-less _ _ (c .before .before .before .loop-test .taken)
 
 loop-again-2 : tie.Need-loop-again-2 Inv-loop μ-loop
 loop-again-2 c =
