@@ -1,13 +1,12 @@
 -- A walk over the records of an area that asks a test of each, or of each two neighbours, with the code's own numbers. Assumes nothing.
 use mathlib.Core.Path.{_≡_, refl, sym, ap, _∙_}
-use mathlib.Core.Bool.{Bool, true, false, not}
+use mathlib.Core.Bool.{Bool, true}
 use Prim.Native.Nat.{ℕ, _+_, _-_, _*_, _≤_, _<_, Ordering}
 use native.Mathlib.Nat.{add-sub-cancel-left}
 use native.Mathlib.Omega.{arith}
-use mathlib.Core.List.{List, []}
-use lib.ListN.{length, getD, take, drop}
+use mathlib.Core.List.{List, [], map}
+use lib.ListN.{length, getD, take, drop, length-map, List·getD-map}
 use lib.Seq.{drop-drop}
-use borrow.Author.Tests.{not-true, not-false}
 use Rattle.values.specs.Basic.{isLt}
 use Rattle.values.specs.Records.{records}
 use Rattle.values.proofs.Records.{length-records, getD-records}
@@ -17,7 +16,7 @@ use Rattle.rules.specs.Layout.{lists, Area, countPlace, countWidth, areaAt, rec
 use Rattle.rules.specs.Sound.{every, sorted}
 use Rattle.laid.specs.Store.{Inside}
 use Rattle.laid.proofs.Inside.{area-count, record-wide}
-use Rattle.sound.proofs.Walks.{every-stop, every-next, every-end, sorted-stop, sorted-next, sorted-end}
+use Rattle.sound.proofs.Walks.{Asked, Turned, asked-turn, asked-end, Rising, Risen, rising-turn, rising-end}
 
 -- ---- the parts of a record, as columns or cells of w bytes from `at` on
 
@@ -28,18 +27,11 @@ module _ (r : List ℕ) (at w n : ℕ) (f : List ℕ → Bool) where
   part-is : (v i : ℕ) → v ≡ w → i < n → take (at + i * v + v - (at + i * v)) (drop (at + i * v) r) ≡ getD parts i []
   part-is v i e h = rw (e, add-sub-cancel-left (at + i * w) w, getD-records w n i (drop at r) h) (ap (take w) (sym (drop-drop (i * w) at r)))
 
-  pub part-stop : (v i : ℕ) (b : Bool) → v ≡ w → every f parts ≡ every f (drop i parts) → i < n
-      → b ≡ f (take (at + i * v + v - (at + i * v)) (drop (at + i * v) r)) → not b ≡ true → false ≡ every f parts
-  part-stop v i b e k h q t =
-      sym (k ∙ every-stop [] parts f i (omega (arith, length-records w n (drop at r))) (ap f (sym (part-is v i e h)) ∙ sym q ∙ not-true b t))
+  pub part-turn : (v i : ℕ) (b : Bool) → v ≡ w → Asked f parts i → i < n → b ≡ f (take (at + i * v + v - (at + i * v)) (drop (at + i * v) r)) → Turned f parts i b
+  part-turn v i b e k h q = asked-turn f parts [] i b k (omega (arith, length-records w n (drop at r))) (q ∙ ap f (part-is v i e h))
 
-  pub part-next : (v i : ℕ) (b : Bool) → v ≡ w → every f parts ≡ every f (drop i parts) → i < n
-      → b ≡ f (take (at + i * v + v - (at + i * v)) (drop (at + i * v) r)) → not b ≡ false → every f parts ≡ every f (drop (i + 1) parts)
-  part-next v i b e k h q t =
-      k ∙ every-next [] parts f i (omega (arith, length-records w n (drop at r))) (ap f (sym (part-is v i e h)) ∙ sym q ∙ not-false b t)
-
-  pub part-end : (i : ℕ) → every f parts ≡ every f (drop i parts) → n ≤ i → true ≡ every f parts
-  part-end i k h = sym (k ∙ every-end [] parts f i (omega (arith, length-records w n (drop at r))))
+  pub part-end : (i : ℕ) → Asked f parts i → n ≤ i → true ≡ every f parts
+  part-end i k h = asked-end f parts i k (omega (arith, length-records w n (drop at r)))
 
 -- ---- the records of an area
 
@@ -53,25 +45,25 @@ module _ (p : Profile) (R : ℕ) (s : List ℕ) (a : Area) (n : ℕ) (en : n ≡
   pub wide-of : Inside p R s → (i : ℕ) (r : List ℕ) → i < n → r ≡ getD recs i [] → length r ≡ recordWidth p a
   wide-of ins i r h e = ap length e ∙ record-wide p R s ins a (areaAt p R a) (recordWidth p a) i refl refl (below i h)
 
-  module _ (f : List ℕ → Bool) (i : ℕ) (k : every f recs ≡ every f (drop i recs)) where
-    pub walk-stop : (r : List ℕ) (b : Bool) → i < n → r ≡ getD recs i [] → b ≡ f r → not b ≡ true → false ≡ every f recs
-    walk-stop r b h e q t = sym (k ∙ every-stop [] recs f i (below i h) (ap f (sym e) ∙ sym q ∙ not-true b t))
+  -- asked of what the records are read as
+  module _ {A : Type 0} (g : List ℕ → A) (xs : List A) (read : xs ≡ map g recs) where
+    many : length xs ≡ n
+    many = ap length read ∙ length-map recs g ∙ area-count p R s a ∙ sym en
 
-    pub walk-next : (r : List ℕ) (b : Bool) → i < n → r ≡ getD recs i [] → b ≡ f r → not b ≡ false → every f recs ≡ every f (drop (i + 1) recs)
-    walk-next r b h e q t = k ∙ every-next [] recs f i (below i h) (ap f (sym e) ∙ sym q ∙ not-false b t)
+    there : (i : ℕ) (r : List ℕ) → r ≡ getD recs i [] → g r ≡ getD xs i (g [])
+    there i r e = ap g e ∙ sym (List·getD-map g recs i []) ∙ ap (λ (l : List A). getD l i (g [])) (sym read)
 
-    pub walk-end : n ≤ i → true ≡ every f recs
-    walk-end h = sym (k ∙ every-end [] recs f i (omega (arith, area-count p R s a)))
+    pub walk-turn : (f : A → Bool) (i : ℕ) (b : Bool) (r : List ℕ) → Asked f xs i → i < n → r ≡ getD recs i [] → b ≡ f (g r) → Turned f xs i b
+    walk-turn f i b r k h e q = asked-turn f xs (g []) i b k (omega (arith, many)) (q ∙ ap f (there i r e))
 
-  module _ (cmp : List ℕ → List ℕ → Ordering) (i : ℕ) (l : 1 ≤ i) (k : sorted cmp recs ≡ sorted cmp (drop (i - 1) recs)) where
-    pub rising-stop : (x y : List ℕ) (b : Bool) → i < n → x ≡ getD recs (i - 1) [] → y ≡ getD recs i [] → b ≡ isLt (cmp x y) → not b ≡ true → false ≡ sorted cmp recs
-    rising-stop x y b h e g q t =
-        sym (k ∙ sorted-stop [] recs cmp i l (below i h) (ap (λ (u : List ℕ). isLt (cmp u (getD recs i []))) (sym e) ∙ ap (λ (u : List ℕ). isLt (cmp x u)) (sym g) ∙ sym q ∙ not-true b t))
+    pub walk-end : (f : A → Bool) (i : ℕ) → Asked f xs i → n ≤ i → true ≡ every f xs
+    walk-end f i k h = asked-end f xs i k (omega (arith, many))
 
-    pub rising-next : (x y : List ℕ) (b : Bool) → i < n → x ≡ getD recs (i - 1) [] → y ≡ getD recs i [] → b ≡ isLt (cmp x y) → not b ≡ false
-        → sorted cmp recs ≡ sorted cmp (drop (i + 1 - 1) recs)
-    rising-next x y b h e g q t =
-        k ∙ sorted-next [] recs cmp i l (below i h) (ap (λ (u : List ℕ). isLt (cmp u (getD recs i []))) (sym e) ∙ ap (λ (u : List ℕ). isLt (cmp x u)) (sym g) ∙ sym q ∙ not-false b t)
+    pub sort-turn : (cmp : A → A → Ordering) (i : ℕ) (b : Bool) (x y : List ℕ) → Rising cmp xs i → i < n → x ≡ getD recs (i - 1) [] → y ≡ getD recs i [] → b ≡ isLt (cmp (g x) (g y))
+        → Risen cmp xs i b
+    sort-turn cmp i b x y k h e d q =
+        rising-turn cmp xs (g []) i b k (omega (arith, many))
+        (q ∙ ap (λ (u : A). isLt (cmp u (g y))) (there (i - 1) x e) ∙ ap (λ (u : A). isLt (cmp (getD xs (i - 1) (g [])) u)) (there i y d))
 
-    pub rising-end : n ≤ i → true ≡ sorted cmp recs
-    rising-end h = sym (k ∙ sorted-end [] recs cmp i l (omega (arith, area-count p R s a)))
+    pub sort-end : (cmp : A → A → Ordering) (i : ℕ) → Rising cmp xs i → n ≤ i → true ≡ sorted cmp xs
+    sort-end cmp i k h = rising-end cmp xs i k (omega (arith, many))

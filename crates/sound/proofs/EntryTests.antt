@@ -9,7 +9,7 @@ use lib.Dec.{isEq}
 use lib.ListN.{length, getD, take, drop, length-map}
 use borrow.Author.Tests.{not-true, not-false, eq-eqb, ne-eqb}
 use Rattle.values.specs.Basic.{isLt, nth, maybe, orDefault}
-use Rattle.values.specs.Value.{Value, null, same, normalised, isUndefined, cmpValue}
+use Rattle.values.specs.Value.{Value, null, normalised, isUndefined, cmpValue}
 use Rattle.values.specs.Cell.{readName, readValue}
 use Rattle.values.specs.Records.{records}
 use Rattle.values.specs.Search.{cmpNamed, cmpContent, cmpEntered, SearchIn}
@@ -23,10 +23,12 @@ use Rattle.rules.specs.Layout.{Entries, countPlace, countWidth, areaAt, recordW
 use Rattle.rules.proofs.Tests.{sorted-is}
 use Rattle.rules.proofs.Index.{ordEntry}
 use Rattle.laid.specs.Store.{Coded, Inside}
-use Rattle.sound.specs.Tested.{Here, Filed, entriesIn, entryOf, inGroup, alike, stands, followed, enteredAs}
+use Rattle.laid.specs.Entered.{entriesIn}
+use Rattle.sound.specs.Tested.{Here, Filed, inGroup, alike, stands, followed, enteredAs, enteredCell}
 use Rattle.laid.proofs.Inside.{area-count}
 use Rattle.laid.proofs.Finding.{nth-map, nth-getD, nth-past}
 use Rattle.laid.proofs.Columns.{value-front}
+use Rattle.sound.proofs.Asking.{entries-read}
 use Rattle.sound.proofs.RowPieces.{row-name, row-cells, key-read, cell-read}
 use Rattle.sound.proofs.Rowing.{rest-read}
 use Rattle.sound.proofs.Placed.{searched, ranked, place-past, place-here}
@@ -49,48 +51,45 @@ module _ (p : Profile) (rec : List ℕ) (n : Name) (i : ℕ) (v : Value) (o : Or
 
 -- ---- an entry searched
 
-module _ (p : Profile) (R : ℕ) (s : List ℕ) (d : Filed p R s) (m : Name) (c : ℕ) (v u : Value) where
+module _ (p : Profile) (R : ℕ) (s : List ℕ) (d : Filed p R s) (e : Entry) where
   abbrev ins : Inside p R s
   ins = d .tabled .schemed .catalog .inside
 
   abbrev es : List Entry
   es = entriesIn p R s
 
-  abbrev e : Entry
-  e = entryOf m c v u
-
-  es-read : es ≡ map (readEntry p) ((lists p R s) .entries)
-  unfolding entriesIn
-  es-read = refl
+  -- a record beside the entry, as the code compares them
+  abbrev besides : List ℕ → Ordering
+  besides r = cmpEntered 26 r (e .table) (e .column) (e .value) (e .key)
 
   srt : Sorted cmpEntry (map (readEntry p) ((lists p R s) .entries))
-  srt = subst (Sorted cmpEntry) es-read (sorted-is cmpEntry es (d .sorted))
+  srt = subst (Sorted cmpEntry) (entries-read p R s) (sorted-is cmpEntry es (d .sorted))
 
-  entered-same : (r : List ℕ) → cmpEntered 26 r m c v u ≡ cmpEntry (readEntry p r) e
+  entered-same : (r : List ℕ) → besides r ≡ cmpEntry (readEntry p r) e
   unfolding cmpEntered cmpContent cmpNamed cmpEntry readEntry
   entered-same r = rw (ins .coded .cells)
 
   module _ (from w n : ℕ) (ef : from ≡ areaAt p R Entries) (ew : w ≡ recordWidth p Entries) (en : n ≡ countAt (countPlace Entries) (countWidth Entries) s) where
-    pub entries-searched : SearchIn (λ r. isLt (cmpEntered 26 r m c v u)) (take (length s - from) (drop from s)) n w
-    entries-searched = searched ordEntry p R s ins Entries (readEntry p) e (λ r. cmpEntered 26 r m c v u) entered-same srt from w n ef ew en
+    pub entries-searched : SearchIn (λ r. isLt (besides r)) (take (length s - from) (drop from s)) n w
+    entries-searched = searched ordEntry p R s ins Entries (readEntry p) e besides entered-same srt from w n ef ew en
 
-    module _ (i : ℕ) (ei : i ≡ countOf (λ r. isLt (cmpEntered 26 r m c v u)) (records w n (take (length s - from) (drop from s)))) (alone : Bool) where
+    module _ (i : ℕ) (ei : i ≡ countOf (λ r. isLt (besides r)) (records w n (take (length s - from) (drop from s)))) (alone : Bool) where
       many : length es ≡ n
-      many = ap length es-read ∙ length-map ((lists p R s) .entries) (readEntry p) ∙ area-count p R s Entries ∙ sym en
+      many = ap length (entries-read p R s) ∙ length-map ((lists p R s) .entries) (readEntry p) ∙ area-count p R s Entries ∙ sym en
 
       placed : i ≡ countOf (λ x. isLt (cmpEntry x e)) es
-      placed = ranked ordEntry p R s ins Entries (readEntry p) e (λ r. cmpEntered 26 r m c v u) entered-same srt from w n ef ew en i ei ∙ ap (countOf (λ x. isLt (cmpEntry x e))) (sym es-read)
+      placed = ranked ordEntry p R s ins Entries (readEntry p) e besides entered-same srt from w n ef ew en i ei ∙ ap (countOf (λ x. isLt (cmpEntry x e))) (sym (entries-read p R s))
 
       pub entry-past : n ≤ i → false ≡ (stands es e && not (alone && followed es e))
       unfolding stands
       entry-past l =
-          let z : stands es e ≡ false = ap (λ (l : List Entry). stands l e) es-read ∙ place-past ordEntry p R s ins Entries (readEntry p) e (λ r. cmpEntered 26 r m c v u) entered-same srt from w n ef ew en i ei l in
+          let z : stands es e ≡ false = ap (λ (l : List Entry). stands l e) (entries-read p R s) ∙ place-past ordEntry p R s ins Entries (readEntry p) e besides entered-same srt from w n ef ew en i ei l in
           sym (ap (λ (b : Bool). b && not (alone && followed es e)) z)
 
-      module _ (l : i < n) (r : List ℕ) (er : r ≡ getD ((lists p R s) .entries) i []) (o : Ordering) (eo : o ≡ cmpEntered 26 r m c v u) where
+      module _ (l : i < n) (r : List ℕ) (er : r ≡ getD ((lists p R s) .entries) i []) (o : Ordering) (eo : o ≡ besides r) where
         standing : stands es e ≡ isEq o
         unfolding stands
-        standing = ap (λ (l : List Entry). stands l e) es-read ∙ place-here ordEntry p R s ins Entries (readEntry p) e (λ r. cmpEntered 26 r m c v u) entered-same srt from w n ef ew en i ei l r er o eo
+        standing = ap (λ (l : List Entry). stands l e) (entries-read p R s) ∙ place-here ordEntry p R s ins Entries (readEntry p) e besides entered-same srt from w n ef ew en i ei l r er o eo
 
         pub entry-elsewhere : isEq o ≡ false → false ≡ (stands es e && not (alone && followed es e))
         entry-elsewhere h = sym (ap (λ (b : Bool). b && not (alone && followed es e)) (standing ∙ h))
@@ -108,13 +107,13 @@ module _ (p : Profile) (R : ℕ) (s : List ℕ) (d : Filed p R s) (m : Name) (c 
               let q : nth es (suc (countOf (λ x. isLt (cmpEntry x e)) es)) ≡ none = nth-past es _ (omega (arith, placed, many)) in
               sym (alone-is t ∙ ap (λ (x : Option Entry). not (maybe x false (alike e))) q)
 
-          pub entry-next : not alone ≡ false → i + 1 < n → (y : List ℕ) → y ≡ getD ((lists p R s) .entries) (i + 1) [] → (b : Bool) → b ≡ inGroup m c v (readEntry p y)
+          pub entry-next : not alone ≡ false → i + 1 < n → (y : List ℕ) → y ≡ getD ((lists p R s) .entries) (i + 1) [] → (b : Bool) → b ≡ alike e (readEntry p y)
               → not b ≡ (stands es e && not (alone && followed es e))
           unfolding followed maybe
           entry-next t k y ey b eb =
               let j : suc (countOf (λ x. isLt (cmpEntry x e)) es) ≡ i + 1 = omega (arith, placed) in
               let q : nth es (i + 1) ≡ some (readEntry p y) =
-              ap (λ (l : List Entry). nth l (i + 1)) es-read ∙ nth-map (readEntry p) ((lists p R s) .entries) (i + 1)
+              ap (λ (l : List Entry). nth l (i + 1)) (entries-read p R s) ∙ nth-map (readEntry p) ((lists p R s) .entries) (i + 1)
               ∙ ap (Option·map (readEntry p)) (nth-getD ((lists p R s) .entries) (i + 1) [] (omega (arith, area-count p R s Entries, k, en)))
               ∙ ap (λ (l : List ℕ). some (readEntry p l)) (sym ey)
               in
@@ -142,22 +141,24 @@ entered-asked es c v e h a ea b eb = eb ∙ rw (not-false (c .index) h, ea) (ap 
     three false y z = refl
 
 -- the code's entry is the row's
-pub entry-is : (p : Profile) (R : ℕ) (s : List ℕ) (row rec : List ℕ) → Coded p → Here p R s (readName row) rec → (n : Name) → n ≡ readName row → (at : ℕ) → at ≡ 25 + (readTable p rec) .key * 26
-    → (key : Value) → key ≡ readValue (take (length row - at) (drop at row)) → (i : ℕ) → i < length ((readTable p rec) .columns) → (v : Value) → v ≡ readValue (drop (25 + i * 26) row)
-    → entryOf n i v key ≡ entryAt (readRow p ((parse p R s) .tables) row) i
-entry-is p R s row rec k h n en at ea key ek i l v ev =
-    let ts = (parse p R s) .tables in
-    let t = readTable p rec in
-    let c1 : n ≡ (readRow p ts row) .table = en ∙ sym (row-name p ts row) in
-    let q : cellAt ((readRow p ts row) .cells) i ≡ readValue (drop (25 + i * 26) row) =
-    ap (λ (vs : List Value). cellAt vs i) (row-cells p ts row k t (h .named)) ∙ ap (λ (x : Option Value). orDefault x null) (cell-read (length (t .columns)) row i l)
-    in
-    let c2 : v ≡ normalised (cellAt ((readRow p ts row) .cells) i) = ev ∙ sym (read-normal (drop (25 + i * 26) row)) ∙ ap normalised (sym q) in
-    let x : key ≡ readValue (drop (25 + t .key * 26) row) = rest-read row at key ek ∙ ap (λ (j : ℕ). readValue (drop j row)) ea in
-    let c3 : key ≡ normalised ((readRow p ts row) .key) =
-    x ∙ sym (read-normal (drop (25 + t .key * 26) row)) ∙ sym (normalised-twice (readValue (drop (25 + t .key * 26) row))) ∙ ap normalised (sym (key-read p ts row k t (h .named) (h .keyed)))
-    in
-    same-entry c1 c2 c3
-  where
-    same-entry : {n' : Name} {v' k' : Value} → n ≡ n' → v ≡ v' → key ≡ k' → entryOf n i v key ≡ entryOf n' i v' k'
-    same-entry e f g = rw (e, f, g)
+module _ (p : Profile) (R : ℕ) (s row rec : List ℕ) (k : Coded p) (h : Here p R s (readName row) rec) (n : Name) (en : n ≡ readName row) (at : ℕ) (ea : at ≡ 25 + (readTable p rec) .key * 26)
+    (key : Value) (ek : key ≡ readValue (take (length row - at) (drop at row))) (i : ℕ) (l : i < length ((readTable p rec) .columns)) (v : Value) (ev : v ≡ readValue (drop (25 + i * 26) row)) where
+  entry-is : _≡_ {A = Entry} (record { table = n; column = i; value = v; key = key }) (entryAt (readRow p ((parse p R s) .tables) row) i)
+  entry-is =
+      let ts = (parse p R s) .tables in
+      let t = readTable p rec in
+      let c1 : n ≡ (readRow p ts row) .table = en ∙ sym (row-name p ts row) in
+      let q : cellAt ((readRow p ts row) .cells) i ≡ readValue (drop (25 + i * 26) row) =
+      ap (λ (vs : List Value). cellAt vs i) (row-cells p ts row k t (h .named)) ∙ ap (λ (x : Option Value). orDefault x null) (cell-read (length (t .columns)) row i l)
+      in
+      let c2 : v ≡ normalised (cellAt ((readRow p ts row) .cells) i) = ev ∙ sym (read-normal (drop (25 + i * 26) row)) ∙ ap normalised (sym q) in
+      let x : key ≡ readValue (drop (25 + t .key * 26) row) = rest-read row at key ek ∙ ap (λ (j : ℕ). readValue (drop j row)) ea in
+      let c3 : key ≡ normalised ((readRow p ts row) .key) =
+      x ∙ sym (read-normal (drop (25 + t .key * 26) row)) ∙ sym (normalised-twice (readValue (drop (25 + t .key * 26) row))) ∙ ap normalised (sym (key-read p ts row k t (h .named) (h .keyed)))
+      in
+      rw (c1, c2, c3)
+
+  pub entered-cell-is : (es : List Entry) (c : Column) (b : Bool) → b ≡ enteredAs es c v (record { table = n; column = i; value = v; key = key })
+      → b ≡ enteredCell es (readRow p ((parse p R s) .tables) row) i c v
+  unfolding enteredCell
+  entered-cell-is es c b e = e ∙ ap (enteredAs es c v) entry-is

@@ -1,14 +1,14 @@
 -- The test of the layout as the code asks it, one fact after the other. Assumes nothing.
 use mathlib.Core.Path.{_≡_, refl, sym, ap, _∙_}
-use mathlib.Core.Bool.{Bool, true, false}
+use mathlib.Core.Bool.{Bool, true, false, not}
 use Prim.Native.Nat.{ℕ, _+_, _-_, _*_, _≤_, _<_}
 use native.Mathlib.Nat.{mul-le-mul, le-refl, add-sub-cancel-left}
 use native.Mathlib.Omega.{arith}
 use mathlib.Core.List.{List, [], _∷_}
 use lib.Dec.{eqb, leb}
 use lib.ListN.{length, getD, take, drop, length-drop}
-use lib.Seq.{take-all, length-take-le}
-use borrow.Author.Tests.{le-leb, lt-leb, eq-eqb, ne-eqb}
+use lib.Seq.{length-take-le}
+use borrow.Author.Tests.{le-leb, lt-leb, eq-eqb, ne-eqb, not-true, not-false}
 use Rattle.values.specs.Bytes.{num, zeros}
 use Rattle.values.specs.Area.{part}
 use Rattle.values.specs.Counted.{countAt}
@@ -17,7 +17,16 @@ use Rattle.rules.specs.Profile.{storeLength}
 use Rattle.rules.specs.Layout.{Area, Schemas, Rows, Entries, countPlace, countWidth, areaAt, recordWidth, areaPlaces, tablesCount, rowsCount, entriesCount}
 use Rattle.rules.specs.Sound.{all}
 use Rattle.rules.proofs.Widths.{area-within}
+use Rattle.laid.proofs.Columns.{rest}
 use Rattle.sound.specs.Tested.{headed, spare, laidOut}
+
+-- ---- a test that the code asked
+
+pub was-false : {b t : Bool} → b ≡ t → not b ≡ true → t ≡ false
+was-false {b} e h = sym e ∙ not-true b h
+
+pub was-true : {b t : Bool} → b ≡ t → not b ≡ false → t ≡ true
+was-true {b} e h = sym e ∙ not-false b h
 
 -- ---- a conjunction, test by test
 
@@ -85,9 +94,7 @@ pub spare-is : (b : Bool) (s : List ℕ) (from n used : ℕ)
     → b ≡ zeros (take (length (take (from + n - from) (drop from s)) - used) (drop used (take (from + n - from) (drop from s))))
     → b ≡ zeros (drop used (part from (from + n) s))
 unfolding part
-spare-is b s from n used h =
-    let x : List ℕ = take (from + n - from) (drop from s) in
-    h ∙ ap zeros (take-all (length x - used) (drop used x) (simp length-drop (omega arith)))
+spare-is b s from n used h = h ∙ ap zeros (rest used (take (from + n - from) (drop from s)))
 
 -- ---- the layout
 
@@ -104,9 +111,9 @@ module _ (p : Profile) (R : ℕ) (s : List ℕ) where
     unfolding spare
     area-told b h = rw (ef, em, ew, en) at h
 
-  pub laid-1 : (b : Bool) → b ≡ headed p R s → b ≡ false → false ≡ laidOut p R s
+  pub laid-1 : (b : Bool) → b ≡ headed p R s → not b ≡ true → false ≡ laidOut p R s
   unfolding laidOut
-  laid-1 b e h = all-fails _ _ (sym e ∙ h)
+  laid-1 b e h = all-fails _ _ (was-false e h)
 
   module _ (h1 : headed p R s ≡ true) where
     pub laid-2 : spare p R s Schemas ≡ false → false ≡ laidOut p R s

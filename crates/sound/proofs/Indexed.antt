@@ -6,30 +6,31 @@ use mathlib.Core.Logic.{_⊎_, inl, inr}
 use mathlib.Core.List.{List, [], _∷_}
 use mathlib.Core.Option.{Option, none, some, Option·map, Option·some-injective}
 use Prim.Native.Nat.{ℕ, suc, _+_, compare, Ordering, Ordering·lt as lt, Ordering·eq as eq, Ordering·gt as gt}
-use native.Mathlib.Nat.{zero-add, suc-add}
+use native.Mathlib.Nat.{zero-add}
 use native.Mathlib.Omega.{arith}
 use lib.Dec.{eqb, isEq}
 use lib.ListN.{length}
 use borrow.Author.Tests.{eqb-true, eq-eqb, not-true, not-false}
 use Rattle.values.specs.Basic.{cmpBytes, nth, maybe, orDefault, keep, any}
-use Rattle.values.specs.Value.{Value, null, boolean, integer, float, text, normalised, same, isUndefined, cmpValue}
+use Rattle.values.specs.Value.{Value, normalised, same, isUndefined, cmpValue}
 use Rattle.values.specs.Sorted.{In, Sorted}
-use Rattle.values.proofs.Floats.{normal-twice}
 use Rattle.values.proofs.Cells.{normalised-twice}
 use Rattle.values.proofs.Orders.{self, pull, ordℕ, ordBytes, ordValue, of-eq, sameValue, exactBytes, exactℕ, exactValue, cmp-normalised-right, eq≢lt, opp, same-exact, exact-same}
-use Rattle.values.proofs.Sorting.{all-below, in-keep, keep-in, any-false, find-in}
+use Rattle.values.proofs.Sorting.{in-keep, keep-in, any-false, find-in}
 use Rattle.rules.specs.State.{Name, Column, Table, Row, cmpRow, isNamed, tableNamed, cellAt, sameName}
 use Rattle.rules.specs.Schema.{schemaFault, columnFault}
 use Rattle.rules.specs.Rows.{exists, taken}
-use Rattle.rules.specs.Index.{Entry, cmpEntry, entryAt, columnsOf, entriesOf, insertAll, indexOf}
+use Rattle.rules.specs.Index.{Entry, cmpEntry, entryAt, columnsOf, entriesOf, indexOf}
 use Rattle.rules.specs.Sound.{everyCell, ofItsTable}
-use Rattle.rules.proofs.Tests.{and-left, and-right, and-both, is-eq, name-is, name-of, orElse-none, first-none}
+use Rattle.rules.proofs.Tests.{and-left, and-right, and-both, is-eq, name-is, name-of, same-normalised, orElse-none, first-none}
 use Rattle.values.proofs.Sorting.{any-in}
-use Rattle.rules.proofs.Lists.{any-is, nth-in, nth-below, below-nth, length-new}
+use Rattle.rules.proofs.Lists.{any-is, nth-in, nth-below, below-nth}
 use Rattle.rules.proofs.Cells.{cell-at, cells-of, cell-there}
 use Rattle.rules.proofs.Room.{column-passes}
-use Rattle.rules.proofs.Index.{ordRow, ordEntry, row-of, AllPlain, exactEntry, EntryOf, indexedIn, entries-in, entries-sorted, entries-plain, in-insertAll, index-sorted, index-in, index-plain, in-index, entry-plain}
+use Rattle.rules.proofs.Index.{ordEntry, AllPlain, exactEntry, EntryOf, indexedIn, index-sorted, index-in, index-plain, in-index, entry-plain}
 use Rattle.rules.proofs.Groups.{inGroup, taken-is}
+use Rattle.rules.proofs.IndexChanges as C
+use Rattle.rules.proofs.Kept.{same-defined}
 use Rattle.sound.specs.Tested.{entriesWanted, alike, placeIn, stands, followed, enteredAs, enteredCell, enteredRow}
 use Rattle.sound.proofs.Ranked.{within-is, place-of, next-behind, next-before, between}
 
@@ -52,40 +53,18 @@ found-named ts n t e = find-in (isNamed n) ts t e .1
 
 -- ---- the number of entries
 
-insert-all-new : (es l : List Entry) → Sorted cmpEntry es → Sorted cmpEntry l → ((e x : Entry) → In e es → In x l → cmpEntry e x ≡ eq → ⊥)
-    → length (insertAll es l) ≡ length es + length l
-insert-all-new [] l s t n = sym (zero-add (length l))
-insert-all-new (e ∷ es) l s t n =
-    length-new cmpEntry e (insertAll es l) (λ x m h. apart x h (in-insertAll es l x t m))
-    ∙ ap suc (insert-all-new es l (s .1) t (λ a x m k. n a x (inr m) k)) ∙ sym (suc-add (length es) (length l))
-  where
-    apart : (x : Entry) → cmpEntry e x ≡ eq → In x es ⊎ In x l → ⊥
-    apart x h (inl m) = eq≢lt (sym h ∙ all-below ordEntry e x es (s .0) (s .1) m)
-    apart x h (inr m) = n e x (inl refl) m h
+wanted-is : (ts : List Table) (rs : List Row) → C.entryCount ts rs ≡ entriesWanted ts rs
+unfolding entriesWanted
+wanted-is ts [] = refl
+wanted-is ts (r ∷ rs) = ap (λ (n : ℕ). length (entriesOf ts r) + n) (wanted-is ts rs)
 
 pub index-length : (ts : List Table) (rs : List Row) → Sorted cmpRow rs → length (indexOf ts rs) ≡ entriesWanted ts rs
-unfolding indexOf entriesWanted
-index-length ts [] s = refl
-index-length ts (r ∷ rs) s =
-    insert-all-new (entriesOf ts r) (indexOf ts rs) (entries-sorted ts r) (index-sorted ts rs) (λ e x m n h. other e x m n h)
-    ∙ ap (λ (n : ℕ). length (entriesOf ts r) + n) (index-length ts rs (s .1))
-  where
-    -- entries of different rows differ in their table or key
-    other : (e x : Entry) → In e (entriesOf ts r) → In x (indexOf ts rs) → cmpEntry e x ≡ eq → ⊥
-    other e x m n h =
-        let a = entries-in ts r e m in
-        let b = index-in ts rs x n in
-        let q : entryAt r (a .column) ≡ entryAt (b .0) (b .2 .column) = sym (a .is) ∙ exactEntry e x (entries-plain ts r e m) (index-plain ts rs x n) h ∙ b .2 .is in
-        eq≢lt (sym (row-of r (b .0) (ap (λ (y : Entry). y .table) q) (ap (λ (y : Entry). y .key) q)) ∙ all-below ordRow r (b .0) rs (s .0) (s .1) (b .1))
+index-length ts rs s = C.index-length ts rs s ∙ wanted-is ts rs
 
 -- ---- entries that agree
 
 pub undefined-normal : (v : Value) → isUndefined (normalised v) ≡ isUndefined v
-undefined-normal null = refl
-undefined-normal (boolean b) = refl
-undefined-normal (integer i) = refl
-undefined-normal (float f) = rw (normal-twice f)
-undefined-normal (text t) = refl
+undefined-normal v = same-defined (normalised v) v (same-normalised v v ∙ ap isEq (self ordValue v))
 
 record Alike (e x : Entry) : Type 0 where
   pub table : cmpBytes (e .table) (x .table) ≡ eq
@@ -254,8 +233,11 @@ module _ (ts : List Table) (rs : List Row) (s : Sorted cmpRow rs) (ok : (r : Row
           let i = index-there (ok r (q .1) .table .columns) j (subst (λ (cs : List Column). indexedIn cs j ≡ true) (columns-are ts r (ok r (q .1))) (q .2 .indexed)) in
           let v = cell-in r (q .1) j (i .0) (i .1) in
           let w = entered-is es r j (i .0) (v .0) (i .2) (cell-at (enteredCell es r) _ _ j (i .0) (v .0) (cells-entered es r (q .1) (h r (q .1))) (i .1) (v .1)) in
-          let x = any-is (λ y. isEq (cmpEntry y (entryAt r j))) es (w .0) in
-          subst (λ (y : Entry). In y es) (exactEntry (x .0) (entryAt r j) (plain (x .0) (x .1)) (entry-plain r j) (is-eq _ (x .2)) ∙ sym (q .2 .is)) (x .1)
+          on a r j (q .2 .is) (any-is (λ y. isEq (cmpEntry y (entryAt r j))) es (w .0))
+        where
+          -- the entry that stands there is the one asked
+          on : (a : Entry) (r : Row) (j : ℕ) → a ≡ entryAt r j → (x : Entry) × In x es × (isEq (cmpEntry x (entryAt r j)) ≡ true) → In a es
+          on a r j e x = subst (λ (y : Entry). In y es) (exactEntry (x .0) (entryAt r j) (plain (x .0) (x .1)) (entry-plain r j) (is-eq (cmpEntry (x .0) (entryAt r j)) (x .2)) ∙ sym e) (x .1)
 
   -- ---- the index rebuilt
 

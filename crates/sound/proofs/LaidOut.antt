@@ -29,7 +29,7 @@ use Rattle.laid.proofs.Inside.{area-count, area-lists}
 
 -- ---- records one after the other are the front of what they were read from
 
-pub joined-records : (w n : ℕ) (xs : List ℕ) → n * w ≤ length xs → joined (records w n xs) ≡ take (n * w) xs
+joined-records : (w n : ℕ) (xs : List ℕ) → n * w ≤ length xs → joined (records w n xs) ≡ take (n * w) xs
 unfolding records joined
 joined-records w zero xs h = rw zero-mul
 joined-records w (suc n) xs h =

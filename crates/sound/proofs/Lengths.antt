@@ -1,10 +1,10 @@
 -- How many row places a buffer has, whether its length is a store's, and a fresh store of the right length. Assumes nothing.
-use mathlib.Core.Path.{_≡_, refl, sym, ap, _∙_}
-use mathlib.Core.Bool.{Bool, true, false}
+use mathlib.Core.Path.{_≡_, sym, ap, _∙_}
+use mathlib.Core.Bool.{true, false}
 use Prim.Native.Nat.{ℕ, _-_, _/_, _≤_, _<_}
 use native.Mathlib.Nat.{zero-div}
 use native.Mathlib.Omega.{arith}
-use mathlib.Core.List.{List, [], _∷_}
+use mathlib.Core.List.{List, []}
 use lib.Dec.{eqb}
 use lib.ListN.{length, take, drop, set, length-append, length-replicate, length-drop}
 use borrow.Author.Tests.{leb-true, eqb-true, le-leb, lt-leb}
@@ -23,11 +23,7 @@ use Rattle.rules.proofs.Widths.{place-positive, header-within}
 use Rattle.rules.proofs.Laid.{layout-length, no-lists-fit, fresh-written}
 use Rattle.rules.proofs.Whole.{fresh-image}
 use Rattle.sound.specs.Fresh.{Freshened}
-
-all-last : (b : Bool) → b ≡ all (b ∷ [])
-unfolding all
-all-last true = refl
-all-last false = refl
+use Rattle.sound.proofs.Headers.{all-ends}
 
 module _ (p : Profile) (s : List ℕ) where
   -- ---- row places, with the code's own numbers
@@ -69,7 +65,7 @@ module _ (p : Profile) (s : List ℕ) where
 
     pub by-length : (n : ℕ) → n ≡ storeLength p R → 1 ≤ R → R ≤ placesMost → eqb (length s) n ≡ rightLength p s
     unfolding rightLength all
-    by-length n f l m = rw (← e, f, le-leb 1 R l, le-leb R placesMost m) (all-last (eqb (length s) (storeLength p R)))
+    by-length n f l m = rw (← e, f, le-leb 1 R l, le-leb R placesMost m) (all-ends (eqb (length s) (storeLength p R)))
 
   -- ---- a fresh store
 
@@ -86,7 +82,7 @@ module _ (p : Profile) (s : List ℕ) where
       }
 
   -- the cleared buffer is as long, and holds the header
-  pub cleared-long : (s₁ : List ℕ) → s₁ ≡ cleared 0 (length s) s → length s₁ ≡ length s
+  cleared-long : (s₁ : List ℕ) → s₁ ≡ cleared 0 (length s) s → length s₁ ≡ length s
   unfolding cleared
   cleared-long s₁ e = ap length e ∙ simp (length-append, length-replicate, length-drop) (omega arith)
 

@@ -8,11 +8,12 @@ use mathlib.Core.List.{List, [], _∷_, map}
 use mathlib.Core.Option.{none, some, Option·map}
 use lib.ListN.{length, getD, drop, length-map, drop-of-length-le}
 use borrow.Author.Tests.{not-true, not-false}
-use Rattle.values.specs.Basic.{keep, keepIf, maybe, onlyIf}
+use Rattle.values.specs.Basic.{keep, maybe, onlyIf}
 use Rattle.values.specs.Value.{Value, isNull}
 use Rattle.values.specs.Cell.{readName}
 use Rattle.rules.specs.declared.profile.Profile.{Profile}
 use Rattle.rules.specs.State.{Name, Column, Table, Row, tableNamed, hasRow}
+use Rattle.rules.specs.Rows.{indexedCount}
 use Rattle.rules.specs.Index.{columnsOf, entriesOf}
 use Rattle.rules.specs.Layout.{lists, parse, readTable, readRow}
 use Rattle.rules.specs.Sound.{everyCell, held, referencesHeld}
@@ -23,7 +24,8 @@ use Rattle.laid.specs.Catalog.{TableBytes}
 use Rattle.sound.specs.Tested.{cellsIn, entriesWanted, enteredCell, enteredRow}
 use Rattle.rules.specs.Index.{Entry}
 use Rattle.laid.proofs.Finding.{drop-nth, nth-map, nth-getD}
-use Rattle.laid.proofs.Columns.{count-byte, column-nth}
+use Rattle.laid.proofs.Columns.{count-byte}
+use Rattle.checks.proofs.Fitting.{indexedFrom, indexed-more, indexed-not, indexed-end}
 use Rattle.sound.proofs.RowPieces.{row-name, row-cells, row-of-its, row-of-none}
 
 -- ---- a reference
@@ -76,30 +78,16 @@ module _ (p : Profile) (ts : List Table) (row : List ℕ) where
 
 -- ---- indexed columns, counted
 
-module _ (p : Profile) (rec : List ℕ) where
-  abbrev cols : List Column
-  cols = (readTable p rec) .columns
+pub counted-next : (p : Profile) (rec : List ℕ) → TableBytes p rec → (i n m : ℕ) (c : Column) → i < getD rec 26 0 → c ≡ columnAt p rec i → m ≡ cond (c .index) 1 0
+    → n + indexedFrom p rec i ≡ indexedCount (readTable p rec) → n + m + indexedFrom p rec (i + 1) ≡ indexedCount (readTable p rec)
+counted-next p rec b i n m c h ec em k = on (c .index) (ap (λ (x : Column). x .index) (sym ec)) em
+  where
+    on : (q : Bool) → (columnAt p rec i) .index ≡ q → m ≡ cond q 1 0 → n + m + indexedFrom p rec (i + 1) ≡ indexedCount (readTable p rec)
+    on true x e = indexed-more p rec b n i (omega (arith, count-byte p rec)) (n + m) x (omega arith) k
+    on false x e = indexed-not p rec b n i (omega (arith, count-byte p rec)) (n + m) x (omega arith) k
 
-  abbrev pub indexedFrom : ℕ → ℕ
-  indexedFrom i = length (keep (λ (c : Column). c .index) (drop i ((readTable p rec) .columns)))
-
-  pub counted-next : TableBytes p rec → (i n m : ℕ) (c : Column) → i < getD rec 26 0 → c ≡ columnAt p rec i → m ≡ cond (c .index) 1 0 → n + indexedFrom i ≡ indexedFrom 0
-      → n + m + indexedFrom (i + 1) ≡ indexedFrom 0
-  counted-next b i n m c h ec em k =
-      let e : drop i cols ≡ c ∷ drop (i + 1) cols =
-      drop-nth cols i c (column-nth p rec b i (omega (arith, count-byte p rec)) ∙ ap some (sym ec)) ∙ ap (λ (j : ℕ). c ∷ drop j cols) (sym (add-one i))
-      in
-      let f : indexedFrom i ≡ m + indexedFrom (i + 1) = ap (λ (l : List Column). length (keep (λ (c : Column). c .index) l)) e ∙ on (c .index) (keep (λ (c : Column). c .index) (drop (i + 1) cols)) ∙ ap (λ (j : ℕ). j + indexedFrom (i + 1)) (sym em) in
-      omega (arith, f, k)
-    where
-      on : (b : Bool) (l : List Column) → length (keepIf b c l) ≡ cond b 1 0 + length l
-      on true l = omega arith
-      on false l = omega arith
-
-  pub counted-end : (i n : ℕ) → getD rec 26 0 ≤ i → n + indexedFrom i ≡ indexedFrom 0 → n ≡ length (keep (λ (c : Column). c .index) cols)
-  counted-end i n h k =
-      let e : indexedFrom i ≡ 0 = ap (λ (l : List Column). length (keep (λ (c : Column). c .index) l)) (drop-of-length-le cols {i = i} (omega (arith, count-byte p rec))) in
-      omega (arith, e, k)
+pub counted-end : (p : Profile) (rec : List ℕ) (i n : ℕ) → getD rec 26 0 ≤ i → n + indexedFrom p rec i ≡ indexedCount (readTable p rec) → n ≡ indexedCount (readTable p rec)
+counted-end p rec i n h k = indexed-end p rec n i (omega (arith, count-byte p rec)) k
 
 -- ---- the rows' entries, counted
 

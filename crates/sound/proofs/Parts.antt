@@ -19,7 +19,7 @@ use Rattle.rules.specs.State.{Table, Row, State, cmpTable, cmpRow, isNamed}
 use Rattle.rules.specs.Schema.{schemaFault}
 use Rattle.rules.specs.Index.{cmpEntry, indexOf}
 use Rattle.rules.specs.Layout.{Lists, Schemas, Rows, lists, layout, recordsOf, tableRecord, readTable, rowRecord, readRow, entryRecord, readEntry, parse, image, placesOf}
-use Rattle.rules.specs.Sound.{all, every, sorted, goodTable, faultless, hasTable, goodCells, rightKinds, keyDefined, uniqueRow, referencesHeld, laid, valid, rightLength, sound}
+use Rattle.rules.specs.Sound.{every, sorted, goodTable, faultless, hasTable, goodCells, rightKinds, keyDefined, uniqueRow, referencesHeld, laid, valid, rightLength, sound}
 use Rattle.rules.proofs.Tests.{and-left, and-right, and-both, all-head, all-tail, all-nil, all-cons, every-at, every-of, sorted-is, sorted-of, none-is}
 use Rattle.rules.proofs.Lists.{in-map, map-back}
 use Rattle.rules.proofs.Index.{AllPlain, Plain, index-sorted}
@@ -29,7 +29,8 @@ use Rattle.rules.proofs.Trip.{table-good, table-back, row-back, entry-back}
 use Rattle.rules.proofs.Laid.{laid-lists}
 use Rattle.rules.proofs.Whole.{sound-of, sound-valid, sound-laid, sound-index, good-row, key-is, good-entries}
 use Rattle.laid.specs.Store.{Coded, Inside}
-use Rattle.sound.specs.Tested.{laidOut, isTable, cataloged, isRow, rowed, entriesIn, isEntry, enteredRow, indexTested}
+use Rattle.laid.specs.Entered.{entriesIn}
+use Rattle.sound.specs.Tested.{laidOut, isTable, cataloged, isRow, rowed, isEntry, enteredRow, indexTested}
 use Rattle.laid.proofs.Inside.{area-count}
 use Rattle.sound.proofs.Lengths.{RightLength, right-is}
 use Rattle.sound.proofs.LaidOut.{laid-of, inside-of, laid-tested}

@@ -38,9 +38,6 @@ unfolding leqb
 leqb-cons x b [] h = absurd (not-suc-le-zero h)
 leqb-cons x b (y ∷ r) h = refl
 
-pub eqb-self : (a b : ℕ) → a ≡ b → eqb a b ≡ true
-eqb-self a b e = eq-eqb a b e
-
 -- ---- zeros
 
 eqb-turn : (x : ℕ) → eqb 0 x ≡ eqb x 0
@@ -77,7 +74,7 @@ canonical-read s b = ap canonical (sym (read-normal s)) ∙ range-canonical (rea
 
 -- ---- records one after the other
 
-pub drop-take : (n m : ℕ) (l : List ℕ) → n ≤ length l → drop n (take (n + m) l) ≡ take m (drop n l)
+drop-take : (n m : ℕ) (l : List ℕ) → n ≤ length l → drop n (take (n + m) l) ≡ take m (drop n l)
 drop-take n m l h = ap (drop n) (take-add n m l) ∙ drop-at (take n l) (take m (drop n l)) n (length-take-le n l h)
 
 module _ {A : Type 0} (w : ℕ) (h : List ℕ → A) (g : A → List ℕ) (wide : (c : List ℕ) → Bytes c → length (g (h c)) ≡ w) where

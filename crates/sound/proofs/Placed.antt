@@ -1,44 +1,41 @@
 -- A sorted area searched for an element: what the search is asked, and whether the element stands at the place that it finds; with the code's own
 -- numbers. Then the rows and the index entries searched so. Assumes nothing.
 use mathlib.Core.Path.{_≡_, refl, sym, ap, _∙_, subst}
-use mathlib.Core.Bool.{Bool, true, false, not, _&&_, _||_, cond}
+use mathlib.Core.Bool.{Bool, true, false, _&&_, _||_, cond}
 use Prim.Native.Nat.{ℕ, _+_, _-_, _*_, _≤_, _<_, Ordering, Ordering·lt as lt, Ordering·eq as eq, Ordering·gt as gt}
 use native.Mathlib.Omega.{arith}
 use mathlib.Core.List.{List, [], _∷_, map}
 use mathlib.Core.Option.{none, some, Option·none-ne-some}
 use lib.Dec.{isEq}
 use lib.ListN.{length, getD, take, drop, length-map, List·getD-map}
-use Rattle.values.specs.Basic.{andThen, cmpBytes, isLt, isSome, any, find}
-use Rattle.values.specs.Value.{Value, same, cmpValue}
+use Rattle.values.specs.Basic.{cmpBytes, isLt, isSome, any, find}
+use Rattle.values.specs.Value.{Value, same}
 use Rattle.values.specs.Records.{records}
 use Rattle.values.specs.Search.{cmpKeyed, SearchIn}
-use Rattle.values.specs.Sorted.{In, All, Sorted, countOf}
+use Rattle.values.specs.Sorted.{In, Sorted, countOf}
 use Rattle.values.specs.Counted.{countAt}
 use Rattle.values.proofs.Orders.{Ord, exactBytes}
 use Rattle.values.proofs.Halving.{count-same, falls-same, count-map}
 use Rattle.values.proofs.Placing.{rank, holds, falls-sorted, holds-at, holds-past}
 use Rattle.rules.specs.declared.profile.Profile.{Profile}
-use Rattle.rules.specs.State.{Name, Table, Row, cmpRow, isNamed, tableNamed, isRow, hasRow}
+use Rattle.rules.specs.State.{Name, Table, Row, cmpRow, tableNamed, isRow, hasRow}
 use Rattle.rules.specs.Layout.{Area, Rows, countPlace, countWidth, areaAt, recordWidth, inArea, lists, parse, readRow, readTable}
-use Rattle.rules.specs.Sound.{sorted, hasTable}
+use Rattle.rules.specs.Sound.{hasTable}
 use Rattle.rules.specs.Sound as S
 use Rattle.rules.proofs.Tests.{all-head, all-tail, every-at, sorted-is}
 use Rattle.rules.proofs.Lists.{any-none, any-ext, in-map}
 use Rattle.rules.proofs.Index.{ordRow}
 use Rattle.laid.specs.Store.{Inside}
-use Rattle.laid.specs.Catalog.{placeOf}
-use Rattle.sound.specs.Tested.{Here, Tabled, rowed, stands}
+use Rattle.laid.specs.Row.{keyed}
+use Rattle.sound.specs.Tested.{Here, Tabled, rowed}
 use Rattle.sound.specs.Tested as T
-use Rattle.laid.proofs.Inside.{area-lists, area-count, records-within}
+use Rattle.laid.proofs.Inside.{area-count}
 use Rattle.laid.proofs.Finding.{falls-unmap}
-use Rattle.laid.proofs.Columns.{rest}
+use Rattle.laid.proofs.Keyed.{row-test}
+use Rattle.laid.proofs.Ranking.{all-of, area-read, area-inside}
 use Rattle.sound.proofs.Indexed.{its-table}
 use Rattle.sound.proofs.RowPieces.{keyed-order}
-use Rattle.sound.proofs.Rowing.{nowhere}
-
-all-of : {A : Type 0} (P : A → Type 0) (xs : List A) → ((x : A) → P x) → All P xs
-all-of P [] h = tt
-all-of P (x ∷ xs) h = (h x, all-of P xs h)
+use Rattle.sound.proofs.Rowing.{rows-read}
 
 -- ---- any sorted area
 
@@ -48,21 +45,16 @@ module _ {A : Type 0} {cmp : A → A → Ordering} (O : Ord cmp) (p : Profile) (
   abbrev recs : List (List ℕ)
   recs = inArea a (lists p R s)
 
-  recs-read : records w n (take (length s - from) (drop from s)) ≡ recs
-  recs-read = rw (rest from s, ef, ew, en) (sym (area-lists p R s a))
-
   pub searched : SearchIn (λ r. isLt (f r)) (take (length s - from) (drop from s)) n w
   searched =
-      record {
-        inside = rw (rest from s, ef, ew, en) (records-within p R s ins a);
-        falls = rw recs-read (falls-same (λ r. isLt (cmp (g r) x)) (λ r. isLt (f r)) recs (all-of _ recs (λ r. ap isLt (sym (same-order r)))) (falls-unmap g (λ y. isLt (cmp y x)) recs (falls-sorted O x (map g recs) srt)));
-      }
+      area-inside p R s ins a from w n ef ew en f
+      (falls-same (λ r. isLt (cmp (g r) x)) (λ r. isLt (f r)) recs (all-of _ recs (λ r m. ap isLt (sym (same-order r)))) (falls-unmap g (λ y. isLt (cmp y x)) recs (falls-sorted O x (map g recs) srt)))
 
   module _ (i : ℕ) (ei : i ≡ countOf (λ r. isLt (f r)) (records w n (take (length s - from) (drop from s)))) where
     pub ranked : i ≡ rank cmp x (map g recs)
     ranked =
-        ei ∙ ap (countOf (λ r. isLt (f r))) recs-read
-        ∙ count-same (λ r. isLt (f r)) (λ r. isLt (cmp (g r) x)) recs (all-of _ recs (λ r. ap isLt (same-order r)))
+        ei ∙ ap (countOf (λ r. isLt (f r))) (area-read p R s ins a from w n ef ew en)
+        ∙ count-same (λ r. isLt (f r)) (λ r. isLt (cmp (g r) x)) recs (all-of _ recs (λ r m. ap isLt (same-order r)))
         ∙ sym (count-map g (λ y. isLt (cmp y x)) recs)
 
     many : length (map g recs) ≡ n
@@ -106,37 +98,24 @@ module _ (p : Profile) (R : ℕ) (s : List ℕ) (d : Tabled p R s) where
   abbrev rows : List Row
   rows = (parse p R s) .rows
 
-  rows-read : rows ≡ map (readRow p tables) ((lists p R s) .rows)
-  unfolding parse
-  rows-read = refl
-
   rows-sorted : Sorted cmpRow rows
   unfolding rowed
   rows-sorted = sorted-is cmpRow rows (all-head _ _ (all-tail _ _ (d .rows)))
 
   module _ (m : Name) (v : Value) where
-    abbrev probe : Row
-    probe = record { table = m; key = v; cells = [] }
+    has-is : hasRow rows m v ≡ holds cmpRow (keyed m v) rows
+    has-is = found-any (isRow m v) rows ∙ any-ext (isRow m v) (λ x. isEq (cmpRow x (keyed m v))) rows (λ r k. sym (row-test m v r))
 
-    has-is : hasRow rows m v ≡ holds cmpRow probe rows
-    unfolding cmpRow
-    has-is = found-any (isRow m v) rows ∙ any-ext (isRow m v) (λ x. isEq (cmpRow x probe)) rows (λ r k. both (cmpBytes (r .table) m) (cmpValue (r .key) v))
-      where
-        both : (o q : Ordering) → (isEq o && isEq q) ≡ isEq (andThen o q)
-        both lt q = refl
-        both eq q = refl
-        both gt q = refl
-
-    pub has-nowhere : none ≡ placeOf (isNamed m) tables → false ≡ hasRow rows m v
+    pub has-nowhere : tableNamed tables m ≡ none → false ≡ hasRow rows m v
     has-nowhere h = sym (found-any (isRow m v) rows ∙ any-none (isRow m v) rows (λ r k. on r k (cmpBytes (r .table) m) refl))
       where
         on : (r : Row) → In r rows → (o : Ordering) → cmpBytes (r .table) m ≡ o → (isEq o && same (r .key) v) ≡ false
         on r k lt e = refl
         on r k gt e = refl
-        on r k eq e = absurd (none-there p R s d r k (ap (tableNamed tables) (exactBytes (r .table) m e) ∙ nowhere p R s m h))
+        on r k eq e = absurd (none-there p R s d r k (ap (tableNamed tables) (exactBytes (r .table) m e) ∙ h))
 
     module _ (rec : List ℕ) (h : Here p R s m rec) (at : ℕ) (ea : at ≡ 25 + (readTable p rec) .key * 26) (from w n : ℕ) where
-      keyed-same : (r : List ℕ) → cmpKeyed at r m v ≡ cmpRow (readRow p tables r) probe
+      keyed-same : (r : List ℕ) → cmpKeyed at r m v ≡ cmpRow (readRow p tables r) (keyed m v)
       keyed-same r = ap (λ (j : ℕ). cmpKeyed j r m v) ea ∙ keyed-order p tables (d .schemed .catalog .inside .coded) (readTable p rec) m (h .named) (h .keyed) r v
 
       module _ (ef : from ≡ areaAt p R Rows) (ew : w ≡ recordWidth p Rows) (en : n ≡ countAt (countPlace Rows) (countWidth Rows) s) where
@@ -144,14 +123,14 @@ module _ (p : Profile) (R : ℕ) (s : List ℕ) (d : Tabled p R s) where
         ins = d .schemed .catalog .inside
 
         srt : Sorted cmpRow (map (readRow p tables) ((lists p R s) .rows))
-        srt = subst (Sorted cmpRow) rows-read rows-sorted
+        srt = subst (Sorted cmpRow) (rows-read p R s) rows-sorted
 
         pub rows-searched : SearchIn (λ r. isLt (cmpKeyed at r m v)) (take (length s - from) (drop from s)) n w
-        rows-searched = searched ordRow p R s ins Rows (readRow p tables) probe (λ r. cmpKeyed at r m v) keyed-same srt from w n ef ew en
+        rows-searched = searched ordRow p R s ins Rows (readRow p tables) (keyed m v) (λ r. cmpKeyed at r m v) keyed-same srt from w n ef ew en
 
         module _ (i : ℕ) (ei : i ≡ countOf (λ r. isLt (cmpKeyed at r m v)) (records w n (take (length s - from) (drop from s)))) where
           pub row-past : n ≤ i → false ≡ hasRow rows m v
-          row-past l = sym (has-is ∙ ap (holds cmpRow probe) rows-read ∙ place-past ordRow p R s ins Rows (readRow p tables) probe (λ r. cmpKeyed at r m v) keyed-same srt from w n ef ew en i ei l)
+          row-past l = sym (has-is ∙ ap (holds cmpRow (keyed m v)) (rows-read p R s) ∙ place-past ordRow p R s ins Rows (readRow p tables) (keyed m v) (λ r. cmpKeyed at r m v) keyed-same srt from w n ef ew en i ei l)
 
           pub row-here : i < n → (r : List ℕ) → r ≡ getD ((lists p R s) .rows) i [] → (o : Ordering) → o ≡ cmpKeyed at r m v → isEq o ≡ hasRow rows m v
-          row-here l r er o eo = sym (has-is ∙ ap (holds cmpRow probe) rows-read ∙ place-here ordRow p R s ins Rows (readRow p tables) probe (λ r. cmpKeyed at r m v) keyed-same srt from w n ef ew en i ei l r er o eo)
+          row-here l r er o eo = sym (has-is ∙ ap (holds cmpRow (keyed m v)) (rows-read p R s) ∙ place-here ordRow p R s ins Rows (readRow p tables) (keyed m v) (λ r. cmpKeyed at r m v) keyed-same srt from w n ef ew en i ei l r er o eo)

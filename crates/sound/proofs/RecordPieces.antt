@@ -21,6 +21,7 @@ use Rattle.rules.specs.declared.profile.Profile.{Profile}
 use Rattle.rules.specs.Profile.{columnWidth, schemaWidth, entryWidth}
 use Rattle.rules.specs.Layout.{one, bit, flags, columnRecord, tableRecord, readColumn, readTable, entryRecord, readEntry}
 use Rattle.rules.specs.Sound.{all, every, canonicalDefault, goodReference, goodColumn, goodTable}
+use Rattle.rules.proofs.Tests.{and-no}
 use Rattle.rules.proofs.Lists.{bool-same}
 use Rattle.laid.specs.Store.{Coded}
 use Rattle.sound.specs.Tested.{isColumn, isTable, isEntry}
@@ -30,6 +31,11 @@ use Rattle.sound.proofs.Pieces.{leqb-append, leqb-cons, zeros-piece, na
 
 pub and-same : {a b c d : Bool} → a ≡ b → c ≡ d → (a && c) ≡ (b && d)
 and-same e f = rw (e, f)
+
+pub second-false : (a b : Bool) (bs : List Bool) → b ≡ false → all (a ∷ b ∷ bs) ≡ false
+unfolding all
+second-false true b bs e = rw e
+second-false false b bs e = refl
 
 entry-tests : (n z w : Bool) → (n && (true && (z && w))) ≡ all (n ∷ z ∷ w ∷ [])
 unfolding all
@@ -249,17 +255,6 @@ table-tests true true false false = refl
 table-tests true false z g = refl
 table-tests false e z g = refl
 
-no-test : (x g e : Bool) → (x && all (g ∷ false ∷ e ∷ [])) ≡ false
-unfolding all
-no-test true true e = refl
-no-test true false e = refl
-no-test false g e = refl
-
-second-fails : (n e z : Bool) → all (n ∷ false ∷ e ∷ z ∷ []) ≡ false
-unfolding all
-second-fails true e z = refl
-second-fails false e z = refl
-
 module _ (p : Profile) (k : Coded p) (r : List ℕ) (b : Bytes r) (l : length r ≡ schemaWidth p) where
   abbrev count : ℕ
   count = getD r 26 0
@@ -327,5 +322,4 @@ module _ (p : Profile) (k : Coded p) (r : List ℕ) (b : Bytes r) (l : length r 
           (sym (every-both (λ c. leqb (columnRecord p (readColumn p c)) c) (readColumn p) goodColumn cols))
       on false e =
           ap (λ (x : Bool). leqb (tableRecord p (readTable p r)) r && x) (good-table ∙ ap (λ (x : Bool). all (true ∷ x ∷ every goodColumn (map (readColumn p) cols) ∷ [])) e)
-          ∙ no-test (leqb (tableRecord p (readTable p r)) r) true (every goodColumn (map (readColumn p) cols))
-          ∙ sym (second-fails (isNameCell (take 25 r)) (every (isColumn p) cols) (zeros (drop (27 + count * columnWidth p) r)))
+          ∙ and-no (leqb (tableRecord p (readTable p r)) r) _ (second-false true _ _ refl) ∙ sym (second-false (isNameCell (take 25 r)) _ _ refl)

@@ -26,15 +26,16 @@ use Rattle.rules.specs.Profile.{rowWidth}
 use Rattle.rules.specs.State.{Name, Table, cmpRow, tableNamed, keyOf, cellAt}
 use Rattle.rules.specs.Layout.{rowRecord, readRow, readCells, unknown}
 use Rattle.rules.specs.Sound.{all, every, everyCell, ofItsTable, goodName, canonical, hasTable, goodCells, rightKinds, keyDefined}
-use Rattle.rules.proofs.Tests.{name-is, every-at, every-of}
-use Rattle.rules.proofs.Trip.{canonical-normal, null-canonical}
-use Rattle.rules.proofs.Lists.{in-map, nth-in}
+use Rattle.rules.proofs.Tests.{name-is, every-of}
+use Rattle.rules.proofs.Trip.{canonical-normal, canonical-cell}
+use Rattle.rules.proofs.Lists.{in-map}
 use Rattle.laid.specs.Store.{Coded}
+use Rattle.laid.specs.Row.{keyed}
 use Rattle.sound.specs.Tested.{fitting, cellsIn, isRow}
 use Rattle.laid.proofs.Finding.{nth-map, nth-getD}
 use Rattle.sound.proofs.Pieces.{leqb-append, zeros-piece, name-piece, value-piece, name-long, value-long, good-read-name, canonical-read, joined-long, joined-piece}
 use Rattle.laid.proofs.Columns.{value-front}
-use Rattle.sound.proofs.RecordPieces.{and-same}
+use Rattle.sound.proofs.RecordPieces.{and-same, second-false}
 use Rattle.sound.proofs.Indexed.{found-named, of-its, undefined-normal}
 
 record-bytes : (w n : ℕ) (l : List ℕ) → Bytes l → (c : List ℕ) → In c (records w n l) → Bytes c
@@ -46,7 +47,7 @@ record-bytes w (suc n) l b c (inr m) = record-bytes w n (drop w l) (drop-bytes w
 -- ---- cells as they are read
 
 module _ (n : ℕ) (r : List ℕ) where
-  pub cells-long : length (cellsIn n r) ≡ n
+  cells-long : length (cellsIn n r) ≡ n
   unfolding readCells
   cells-long = length-map (records 26 n (drop 25 r)) readValue ∙ length-records 26 n (drop 25 r)
 
@@ -82,11 +83,11 @@ module _ (p : Profile) (ts : List Table) (r : List ℕ) where
     unfolding readRow
     row-cells = rw (e, k .cells)
 
-    pub row-key : (readRow p ts r) .key ≡ normalised (keyOf t (cellsIn (length (t .columns)) r))
+    row-key : (readRow p ts r) .key ≡ normalised (keyOf t (cellsIn (length (t .columns)) r))
     unfolding readRow
     row-key = rw (e, k .cells)
 
-    pub row-table : tableNamed ts ((readRow p ts r) .table) ≡ some t
+    row-table : tableNamed ts ((readRow p ts r) .table) ≡ some t
     row-table = ap (tableNamed ts) row-name ∙ e
 
     pub key-read : t .key < length (t .columns) → (readRow p ts r) .key ≡ normalised (readValue (drop (25 + t .key * 26) r))
@@ -121,11 +122,6 @@ cells-are (suc n) l h =
     (ap (λ (v : Value). leqb (valueCell 26 v) (take 26 l)) (value-front 26 l (omega arith)) ∙ value-piece l (omega arith))
     (cells-are n (drop 26 l) (simp length-drop (omega arith)))
 
-second-false : (a b : Bool) (bs : List Bool) → b ≡ false → all (a ∷ b ∷ bs) ≡ false
-unfolding all
-second-false true b bs e = rw e
-second-false false b bs e = refl
-
 two-true : {a b : Bool} → a ≡ true → b ≡ true → all (a ∷ b ∷ []) ≡ true
 unfolding all
 two-true e f = rw (e, f)
@@ -138,11 +134,7 @@ five : {a b c d e a' d' e' : Bool} → a ≡ a' → b ≡ true → c ≡ true �
 five p q r s t = rw (p, q, r, s, t)
 
 key-canonical : (vs : List Value) (i : ℕ) → every canonical vs ≡ true → canonical (normalised (cellAt vs i)) ≡ true
-key-canonical vs i h = ap canonical (canonical-normal (cellAt vs i) (on (nth vs i) refl)) ∙ on (nth vs i) refl
-  where
-    on : (o : Option Value) → nth vs i ≡ o → canonical (orDefault o null) ≡ true
-    on none e = null-canonical
-    on (some v) e = every-at canonical vs h v (nth-in vs i v e)
+key-canonical vs i h = let e = canonical-cell vs i h in ap canonical (canonical-normal (cellAt vs i) e) ∙ e
 
 module _ (p : Profile) (ts : List Table) (k : Coded p) (r : List ℕ) (b : Bytes r) (l : length r ≡ rowWidth p) where
   pub row-none : tableNamed ts (readName r) ≡ none → isRow p ts r ≡ false
@@ -225,7 +217,7 @@ module _ (p : Profile) (ts : List Table) (k : Coded p) (r : List ℕ) (b : Bytes
 
 -- compared by its name and the cell at the key's place, it is compared as the row
 pub keyed-order : (p : Profile) (ts : List Table) → Coded p → (t : Table) (m : Name) → tableNamed ts m ≡ some t → t .key < length (t .columns)
-    → (a : List ℕ) (v : Value) → cmpKeyed (25 + t .key * 26) a m v ≡ cmpRow (readRow p ts a) (record { table = m; key = v; cells = [] })
+    → (a : List ℕ) (v : Value) → cmpKeyed (25 + t .key * 26) a m v ≡ cmpRow (readRow p ts a) (keyed m v)
 unfolding cmpKeyed cmpNamed cmpRow
 keyed-order p ts k t m e h a v =
     on (cmpBytes (readName a) m) refl ∙ ap (λ (x : Name). andThen (cmpBytes x m) (cmpValue ((readRow p ts a) .key) v)) (sym (row-name p ts a))

@@ -4,12 +4,10 @@ use mathlib.Core.Bool.{Bool, true, false, not, _&&_, cond, true≢false}
 use Prim.Native.Nat.{ℕ, _+_, _-_, _*_, _≤_, _<_, Ordering}
 use native.Mathlib.Nat.{mul-le-mul, le-refl}
 use native.Mathlib.Omega.{arith}
-use mathlib.Core.List.{List, [], _∷_}
+use mathlib.Core.List.{List, [], _∷_, map}
 use mathlib.Core.Option.{Option, none, some}
 use lib.Dec.{eqb}
-use lib.ListN.{length, getD, take, drop, length-drop}
-use lib.Seq.{take-all}
-use borrow.Author.Tests.{not-true, not-false}
+use lib.ListN.{length, getD, take, drop}
 use Rattle.values.specs.Basic.{andThen, cmpBytes, isNone, nth, orDefault}
 use Rattle.values.specs.Bytes.{zeros, Bytes}
 use Rattle.values.specs.Value.{Value, null, kindOf, isNull, isUndefined, normalised, cmpValue}
@@ -22,26 +20,28 @@ use Rattle.rules.specs.declared.profile.Profile.{Profile}
 use Rattle.rules.specs.Profile.{rowWidth}
 use Rattle.rules.specs.declared.answer.Refusal.{Refusal}
 use Rattle.rules.specs.Refusal.{numberOf}
-use Rattle.rules.specs.State.{Name, Column, Table, Row, cmpRow, isNamed, tableNamed, keyOf}
+use Rattle.rules.specs.State.{Name, Column, Table, cmpRow, isNamed, tableNamed, keyOf}
 use Rattle.rules.specs.Schema as S
 use Rattle.rules.specs.Schema.{schemaFault}
 use Rattle.rules.specs.Layout.{lists, parse, readTable, readRow}
-use Rattle.rules.specs.Sound.{all, every, sorted, everyCell, faultless}
+use Rattle.rules.specs.Sound.{all, every, everyCell, faultless}
 use Rattle.rules.proofs.Tests.{every-at, none-is}
 use Rattle.rules.proofs.Lists.{nth-below, nth-in}
 use Rattle.rules.proofs.Room.{key-column}
 use Rattle.rules.proofs.Widths.{cell-within}
 use Rattle.laid.specs.Store.{Coded}
 use Rattle.laid.specs.Column.{columnAt}
+use Rattle.laid.specs.declared.catalog.Found.{Found}
+use Rattle.laid.specs.declared.catalog.Found.the-variants.{At, Nothing}
 use Rattle.checks.specs.declared.schema_fault.Fault.{Fault}
-use Rattle.laid.specs.Catalog.{TableBytes, placeOf}
+use Rattle.laid.specs.Catalog.{TableBytes, placeOf, foundAt}
 use Rattle.checks.specs.Faults.{faultOf}
 use Rattle.sound.specs.Tested.{Schemed, Here, fitting, cellsIn, fitsTable, isRow}
 use Rattle.laid.proofs.Finding.{place-missing, nth-getD}
 use Rattle.laid.proofs.Searching.{found-within, found-table, table-bytes-at}
-use Rattle.laid.proofs.Columns.{count-byte, columns-few, column-nth, key-byte}
-use Rattle.sound.proofs.Headers.{all-fails, all-next, all-ends}
-use Rattle.sound.proofs.Walks.{Cells, cell-stop, cell-next, cells-end, every-map-is, sorted-map-is}
+use Rattle.laid.proofs.Columns.{rest, count-byte, columns-few, column-nth, key-byte}
+use Rattle.sound.proofs.Headers.{was-false, was-true, all-fails, all-next, all-ends}
+use Rattle.sound.proofs.Walks.{Cells, CellTurned, cell-turn, cells-end}
 use Rattle.sound.proofs.RowPieces.{cell-read, row-name, key-read, row-none, row-pieces, keyed-order}
 
 keyed-of : (ts : List Table) (t : Table) (n : Name) → faultless ts ≡ true → tableNamed ts n ≡ some t → t .key < length (t .columns)
@@ -63,21 +63,13 @@ module _ (p : Profile) (R : ℕ) (s : List ℕ) where
   abbrev tables : List Table
   tables = (parse p R s) .tables
 
-  pub faultless-walk : every (λ r. isNone (schemaFault tables (readTable p r))) ((lists p R s) .schemas) ≡ faultless tables
-  unfolding faultless parse
-  faultless-walk = sym (every-map-is (readTable p) (λ t. isNone (schemaFault tables t)) ((lists p R s) .schemas))
-
-  pub rows-sorted-is : sorted (λ x y. cmpRow (readRow p tables x) (readRow p tables y)) ((lists p R s) .rows) ≡ sorted cmpRow ((parse p R s) .rows)
+  pub rows-read : (parse p R s) .rows ≡ map (readRow p tables) ((lists p R s) .rows)
   unfolding parse
-  rows-sorted-is = sym (sorted-map-is (readRow p tables) cmpRow ((lists p R s) .rows))
-
-  pub rows-every-is : (f : Row → Bool) → every (λ x. f (readRow p tables x)) ((lists p R s) .rows) ≡ every f ((parse p R s) .rows)
-  unfolding parse
-  rows-every-is f = sym (every-map-is (readRow p tables) f ((lists p R s) .rows))
+  rows-read = refl
 
   -- ---- the table of a name
 
-  pub here-of : Schemed p R s → (n : Name) (i : ℕ) (rec : List ℕ) → some i ≡ placeOf (isNamed n) tables → rec ≡ getD ((lists p R s) .schemas) i [] → Here p R s n rec
+  here-of : Schemed p R s → (n : Name) (i : ℕ) (rec : List ℕ) → some i ≡ placeOf (isNamed n) tables → rec ≡ getD ((lists p R s) .schemas) i [] → Here p R s n rec
   here-of c n i rec h e =
       let named : tableNamed tables n ≡ some (readTable p rec) = found-table p R s n i h ∙ ap (λ (r : List ℕ). some (readTable p r)) (sym e) in
       record {
@@ -88,6 +80,18 @@ module _ (p : Profile) (R : ℕ) (s : List ℕ) where
 
   pub nowhere : (n : Name) → none ≡ placeOf (isNamed n) tables → tableNamed tables n ≡ none
   nowhere n h = place-missing (isNamed n) tables (sym h)
+
+  -- what a search by name found, and for a name that is the same
+  module _ (m : Name) (f : Found) (ef : foundAt f ≡ placeOf (isNamed m) tables) where
+    pub found-none : (n : Name) → m ≡ n → f ≡ Nothing → tableNamed tables n ≡ none
+    found-none n em h = ap (tableNamed tables) (sym em) ∙ nowhere m (ap foundAt (sym h) ∙ ef)
+
+    module _ (i : ℕ) (h : f ≡ At i) where
+      pub found-below : i < length ((lists p R s) .schemas)
+      found-below = found-within p R s m i (ap foundAt (sym h) ∙ ef)
+
+      pub found-here : Schemed p R s → (rec : List ℕ) → rec ≡ getD ((lists p R s) .schemas) i [] → (n : Name) → m ≡ n → Here p R s n rec
+      found-here c rec e n em = subst (λ (k : Name). Here p R s k rec) em (here-of c m i rec (ap foundAt (sym h) ∙ ef) e)
 
 -- ---- where cells lie
 
@@ -101,7 +105,7 @@ row-cells-fit p k r n l h =
     subst (λ (w : ℕ). 25 + n * w ≤ length r) (k .cells) (omega (arith, l))
 
 pub rest-read : (r : List ℕ) (at : ℕ) (v : Value) → v ≡ readValue (take (length r - at) (drop at r)) → v ≡ readValue (drop at r)
-rest-read r at v e = e ∙ ap readValue (take-all (length r - at) (drop at r) (simp length-drop (omega arith)))
+rest-read r at v e = e ∙ ap readValue (rest at r)
 
 -- ---- column by column
 
@@ -125,11 +129,8 @@ module _ (p : Profile) (rec row : List ℕ) (f : ℕ → Column → Value → Bo
     value-there : nth vals i ≡ some v
     value-there = cell-read (length cols) row i below ∙ ap some (sym ev)
 
-    pub row-stop : (x : Bool) → x ≡ f i c v → not x ≡ true → false ≡ everyCell f 0 cols vals
-    row-stop x e t = cell-stop f cols vals i w c v there value-there (sym e ∙ not-true x t)
-
-    pub row-next : (x : Bool) → x ≡ f i c v → not x ≡ false → Cells f cols vals (i + 1)
-    row-next x e t = cell-next f cols vals i w c v there value-there (sym e ∙ not-false x t)
+    pub row-turn : (x : Bool) → x ≡ f i c v → CellTurned f cols vals i x
+    row-turn x e = cell-turn f cols vals i c v x w there value-there e
 
 -- ---- kinds and NULLs
 
@@ -155,22 +156,21 @@ module _ (p : Profile) (rec row : List ℕ) (a : Bool) (n : ℕ) (en : n ≡ get
 
   pub fits-1 : not a ≡ true → false ≡ fitsTable (readTable p rec) row
   unfolding fitsTable
-  fits-1 h = all-fails _ _ (sym is-a ∙ not-true a h)
+  fits-1 h = all-fails _ _ (was-false is-a h)
 
   module _ (h1 : not a ≡ false) (z : Bool) (ez : z ≡ zeros (take (length row - (25 + n * 26)) (drop (25 + n * 26) row))) where
     is-z : z ≡ zeros (drop (25 + length ((readTable p rec) .columns) * 26) row)
     is-z =
-        ez ∙ ap zeros (take-all (length row - (25 + n * 26)) (drop (25 + n * 26) row) (simp length-drop (omega arith)))
-        ∙ ap (λ (m : ℕ). zeros (drop (25 + m * 26) row)) (en ∙ count-byte p rec)
+        ez ∙ ap zeros (rest (25 + n * 26) row) ∙ ap (λ (m : ℕ). zeros (drop (25 + m * 26) row)) (en ∙ count-byte p rec)
 
     pub fits-2 : not z ≡ true → false ≡ fitsTable (readTable p rec) row
     unfolding fitsTable
-    fits-2 h = all-next _ _ (sym is-a ∙ not-false a h1) (all-fails _ _ (sym is-z ∙ not-true z h))
+    fits-2 h = all-next _ _ (was-true is-a h1) (all-fails _ _ (was-false is-z h))
 
     module _ (h2 : not z ≡ false) (f : Bool) (ef : f ≡ everyCell fitting 0 ((readTable p rec) .columns) (cellsIn (length ((readTable p rec) .columns)) row)) where
       pub fits-3 : not f ≡ true → false ≡ fitsTable (readTable p rec) row
       unfolding fitsTable
-      fits-3 h = all-next _ _ (sym is-a ∙ not-false a h1) (all-next _ _ (sym is-z ∙ not-false z h2) (all-fails _ _ (sym ef ∙ not-true f h)))
+      fits-3 h = all-next _ _ (was-true is-a h1) (all-next _ _ (was-true is-z h2) (all-fails _ _ (was-false ef h)))
 
       pub fits-4 : not f ≡ false → (readTable p rec) .key < length ((readTable p rec) .columns) → (at : ℕ) → at ≡ 25 + (readTable p rec) .key * 26
           → (v : Value) → v ≡ readValue (take (length row - at) (drop at row)) → (u : Bool) → u ≡ isUndefined v → not u ≡ fitsTable (readTable p rec) row
@@ -182,13 +182,13 @@ module _ (p : Profile) (rec row : List ℕ) (a : Bool) (n : ℕ) (en : n ≡ get
           ∙ ap (λ (m : ℕ). readValue (drop m row)) (sym ea) ∙ sym (rest-read row at v ev)
           in
           ap not (eu ∙ ap isUndefined (sym q))
-          ∙ all-next _ _ (sym is-a ∙ not-false a h1) (all-next _ _ (sym is-z ∙ not-false z h2) (all-next _ _ (sym ef ∙ not-false f h) (all-ends _)))
+          ∙ all-next _ _ (was-true is-a h1) (all-next _ _ (was-true is-z h2) (all-next _ _ (was-true ef h) (all-ends _)))
 
 -- ---- a row
 
 module _ (p : Profile) (R : ℕ) (s : List ℕ) (c : Schemed p R s) (row : List ℕ) (b : Bytes row) (l : length row ≡ rowWidth p) (m : Name) (em : m ≡ readName row) where
-  pub row-nowhere : none ≡ placeOf (isNamed m) (tables p R s) → false ≡ isRow p (tables p R s) row
-  row-nowhere h = sym (row-none p (tables p R s) (c .catalog .inside .coded) row b l (ap (tableNamed (tables p R s)) (sym em) ∙ nowhere p R s m h))
+  pub row-nowhere : tableNamed (tables p R s) (readName row) ≡ none → false ≡ isRow p (tables p R s) row
+  row-nowhere h = sym (row-none p (tables p R s) (c .catalog .inside .coded) row b l h)
 
   module _ (rec : List ℕ) (h : Here p R s m rec) (n : Bool) (en : n ≡ isNameCell (take 25 row)) where
     abbrev size : ℕ
@@ -200,16 +200,16 @@ module _ (p : Profile) (R : ℕ) (s : List ℕ) (c : Schemed p R s) (row : List 
     pieces = row-pieces p (tables p R s) (c .catalog .inside .coded) row b l (readTable p rec) (ap (tableNamed (tables p R s)) (sym em) ∙ h .named) (columns-few p rec (h .bytes))
 
     pub row-misnamed : not n ≡ true → false ≡ isRow p (tables p R s) row
-    row-misnamed t = all-fails _ _ (sym en ∙ not-true n t) ∙ sym pieces
+    row-misnamed t = all-fails _ _ (was-false en t) ∙ sym pieces
 
     pub row-fits : not n ≡ false → (f : Bool) → f ≡ fitsTable (readTable p rec) row → f ≡ isRow p (tables p R s) row
     unfolding fitsTable
-    row-fits t f ef = ef ∙ all-next _ _ (sym en ∙ not-false n t) refl ∙ sym pieces
+    row-fits t f ef = ef ∙ all-next _ _ (was-true en t) refl ∙ sym pieces
 
 -- ---- which of two comes first
 
 module _ (p : Profile) (R : ℕ) (s : List ℕ) (c : Schemed p R s) (x y : List ℕ) (m : Name) (em : m ≡ readName y) where
-  pub first-nowhere : {q : Bool} → Bytes y → length y ≡ rowWidth p → isRow p (tables p R s) y ≡ true → none ≡ placeOf (isNamed m) (tables p R s) → false ≡ q
+  pub first-nowhere : {q : Bool} → Bytes y → length y ≡ rowWidth p → isRow p (tables p R s) y ≡ true → tableNamed (tables p R s) (readName y) ≡ none → false ≡ q
   first-nowhere b l t h = absurd (true≢false (sym t ∙ sym (row-nowhere p R s c y b l m em h)))
 
   pub first-order : (rec : List ℕ) → Here p R s m rec → (at : ℕ) → at ≡ 25 + (readTable p rec) .key * 26 → (v : Value) → v ≡ readValue (take (length y - at) (drop at y))

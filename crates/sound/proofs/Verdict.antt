@@ -1,6 +1,6 @@
 -- The soundness test as the code asks it: what each part gives to the next, and that all of them passed is soundness. Assumes nothing.
-use mathlib.Core.Path.{_≡_, refl, sym, _∙_, subst}
-use mathlib.Core.Bool.{Bool, true, false, true≢false}
+use mathlib.Core.Path.{_≡_, refl, sym, ap, _∙_, subst}
+use mathlib.Core.Bool.{Bool, true, false, not, true≢false}
 use Prim.Native.Nat.{ℕ, _≤_}
 use mathlib.Core.List.{List, [], _∷_}
 use lib.Dec.{eqb}
@@ -20,8 +20,11 @@ use Rattle.rules.specs.Sound.{all, every, sorted, faultless, referencesHeld, ri
 use Rattle.rules.proofs.Tests.{and-left, and-right, all-head, all-tail, all-nil, all-cons, sorted-is}
 use Rattle.laid.specs.Store.{Coded, Inside}
 use Rattle.laid.specs.Catalog.{TableBytes, Catalog}
-use Rattle.sound.specs.Tested.{laidOut, isTable, cataloged, isRow, rowed, isEntry, entriesIn, entriesWanted, enteredRow, Filed, indexTested}
+use Rattle.laid.specs.Entered.{entriesIn}
+use Rattle.sound.specs.Tested.{laidOut, isTable, cataloged, isRow, rowed, isEntry, entriesWanted, enteredRow, Filed, indexTested}
 use Rattle.laid.proofs.Inside.{area-wide, area-count}
+use Rattle.sound.proofs.Asking.{entries-read}
+use Rattle.sound.proofs.Headers.{was-false, was-true}
 use Rattle.sound.proofs.Lengths.{right-is}
 use Rattle.sound.proofs.Parts.{Parts, sound-parts, parts-sound}
 
@@ -36,89 +39,98 @@ tables-bytes p k (r ∷ rs) w h =
       tables-bytes p k rs (w .1) (and-right (isTable p r) (every (isTable p) rs) h),
     )
 
-pub catalog-of : (p : Profile) (R : ℕ) (s : List ℕ) → Inside p R s → every (isTable p) ((lists p R s) .schemas) ≡ true → sorted cmpTable ((parse p R s) .tables) ≡ true → Catalog p R s
-catalog-of p R s i h k =
-    record { inside = i; records = tables-bytes p (i .coded) ((lists p R s) .schemas) (area-wide p R s i Schemas) h; sorted = sorted-is cmpTable ((parse p R s) .tables) k }
+module _ (p : Profile) (R : ℕ) (s : List ℕ) (a b : Bool) where
+  pub cataloged-is : a ≡ every (isTable p) ((lists p R s) .schemas) → not a ≡ false → b ≡ sorted cmpTable ((parse p R s) .tables) → not b ≡ false → cataloged p R s ≡ true
+  unfolding cataloged
+  cataloged-is ea ha eb hb = all-cons _ _ (was-true ea ha) (all-cons _ _ (was-true eb hb) all-nil)
 
-pub rowed-is : (p : Profile) (R : ℕ) (s : List ℕ) → every (isRow p ((parse p R s) .tables)) ((lists p R s) .rows) ≡ true → sorted cmpRow ((parse p R s) .rows) ≡ true → rowed p R s ≡ true
-unfolding rowed
-rowed-is p R s h k = all-cons _ _ h (all-cons _ _ k all-nil)
+  pub rowed-is : a ≡ every (isRow p ((parse p R s) .tables)) ((lists p R s) .rows) → not a ≡ false → b ≡ sorted cmpRow ((parse p R s) .rows) → not b ≡ false → rowed p R s ≡ true
+  unfolding rowed
+  rowed-is ea ha eb hb = all-cons _ _ (was-true ea ha) (all-cons _ _ (was-true eb hb) all-nil)
+
+pub catalog-of : (p : Profile) (R : ℕ) (s : List ℕ) → Inside p R s → cataloged p R s ≡ true → Catalog p R s
+unfolding cataloged
+catalog-of p R s i h =
+    record {
+      inside = i;
+      records = tables-bytes p (i .coded) ((lists p R s) .schemas) (area-wide p R s i Schemas) (all-head _ _ h);
+      sorted = sorted-is cmpTable ((parse p R s) .tables) (all-head _ _ (all-tail _ _ h));
+    }
 
 -- ---- the verdict
 
 module _ (p : Profile) (k : Coded p) (s : List ℕ) where
-  pub no-length : rightLength p s ≡ false → false ≡ sound p s
+  pub no-length : (b : Bool) → b ≡ rightLength p s → not b ≡ true → false ≡ sound p s
   unfolding sound all
-  no-length h = rw h
+  no-length b e h = rw (was-false e h)
 
   module _ (R : ℕ) (e : R ≡ placesOf p s) where
     pub long-of : rightLength p s ≡ true → (R ≤ placesMost) × (length s ≡ storeLength p R)
     long-of h = let r = right-is p s h in rw e (r .most, r .long)
 
-    -- a sound store passes each test
-    no : (t : Bool) → (Parts p R s → t ≡ true) → t ≡ false → false ≡ sound p s
-    no t f h = on (sound p s) refl
+    -- a sound store passes each test, asked as b
+    no : (t : Bool) → (Parts p R s → t ≡ true) → (b : Bool) → b ≡ t → not b ≡ true → false ≡ sound p s
+    no t f b g h = on (sound p s) refl
       where
         on : (b : Bool) → sound p s ≡ b → false ≡ b
-        on true q = absurd (true≢false (sym (f (subst (λ (n : ℕ). Parts p n s) (sym e) (sound-parts p (k .known) s q))) ∙ h))
+        on true q = absurd (true≢false (sym (f (subst (λ (n : ℕ). Parts p n s) (sym e) (sound-parts p (k .known) s q))) ∙ was-false g h))
         on false q = refl
 
-    pub no-layout : laidOut p R s ≡ false → false ≡ sound p s
+    pub no-layout : (b : Bool) → b ≡ laidOut p R s → not b ≡ true → false ≡ sound p s
     no-layout = no _ (λ x. x .laid)
 
-    pub no-tables : every (isTable p) ((lists p R s) .schemas) ≡ false → false ≡ sound p s
+    pub no-tables : (b : Bool) → b ≡ every (isTable p) ((lists p R s) .schemas) → not b ≡ true → false ≡ sound p s
     unfolding cataloged
     no-tables = no _ (λ x. all-head _ _ (x .tables))
 
-    pub no-order : sorted cmpTable ((parse p R s) .tables) ≡ false → false ≡ sound p s
+    pub no-order : (b : Bool) → b ≡ sorted cmpTable ((parse p R s) .tables) → not b ≡ true → false ≡ sound p s
     unfolding cataloged
     no-order = no _ (λ x. all-head _ _ (all-tail _ _ (x .tables)))
 
-    pub no-schemas : faultless ((parse p R s) .tables) ≡ false → false ≡ sound p s
+    pub no-schemas : (b : Bool) → b ≡ faultless ((parse p R s) .tables) → not b ≡ true → false ≡ sound p s
     no-schemas = no _ (λ x. x .faults)
 
-    pub no-rows : every (isRow p ((parse p R s) .tables)) ((lists p R s) .rows) ≡ false → false ≡ sound p s
+    pub no-rows : (b : Bool) → b ≡ every (isRow p ((parse p R s) .tables)) ((lists p R s) .rows) → not b ≡ true → false ≡ sound p s
     unfolding rowed
     no-rows = no _ (λ x. all-head _ _ (x .rows))
 
-    pub no-row-order : sorted cmpRow ((parse p R s) .rows) ≡ false → false ≡ sound p s
+    pub no-row-order : (b : Bool) → b ≡ sorted cmpRow ((parse p R s) .rows) → not b ≡ true → false ≡ sound p s
     unfolding rowed
     no-row-order = no _ (λ x. all-head _ _ (all-tail _ _ (x .rows)))
 
-    pub no-links : every (referencesHeld ((parse p R s) .tables) ((parse p R s) .rows)) ((parse p R s) .rows) ≡ false → false ≡ sound p s
+    pub no-links : (b : Bool) → b ≡ every (referencesHeld ((parse p R s) .tables) ((parse p R s) .rows)) ((parse p R s) .rows) → not b ≡ true → false ≡ sound p s
     no-links = no _ (λ x. x .links)
 
-    pub no-entries : every (isEntry p) ((lists p R s) .entries) ≡ false → false ≡ sound p s
+    pub no-entries : (b : Bool) → b ≡ every (isEntry p) ((lists p R s) .entries) → not b ≡ true → false ≡ sound p s
     unfolding indexTested
     no-entries = no _ (λ x. all-head _ _ (x .index))
 
-    pub no-entry-order : sorted cmpEntry (entriesIn p R s) ≡ false → false ≡ sound p s
+    pub no-entry-order : (b : Bool) → b ≡ sorted cmpEntry (entriesIn p R s) → not b ≡ true → false ≡ sound p s
     unfolding indexTested
     no-entry-order = no _ (λ x. all-head _ _ (all-tail _ _ (x .index)))
 
     entries-long : length (entriesIn p R s) ≡ countAt entriesCount 4 s
-    unfolding entriesIn
-    entries-long = length-map ((lists p R s) .entries) (readEntry p) ∙ area-count p R s Entries
+    entries-long = ap length (entries-read p R s) ∙ length-map ((lists p R s) .entries) (readEntry p) ∙ area-count p R s Entries
 
     module _ (n m : ℕ) (en : n ≡ countAt entriesCount 4 s) (em : m ≡ entriesWanted ((parse p R s) .tables) ((parse p R s) .rows)) where
       pub no-count : (n ≡ m → ⊥) → false ≡ sound p s
       unfolding indexTested
-      no-count h = no (eqb (length (entriesIn p R s)) (entriesWanted ((parse p R s) .tables) ((parse p R s) .rows))) (λ x. all-head _ _ (all-tail _ _ (all-tail _ _ (x .index)))) (ne-eqb _ _ (λ q. h (en ∙ sym entries-long ∙ q ∙ sym em)))
+      no-count h = no (eqb (length (entriesIn p R s)) (entriesWanted ((parse p R s) .tables) ((parse p R s) .rows))) (λ x. all-head _ _ (all-tail _ _ (all-tail _ _ (x .index)))) false (sym (ne-eqb _ _ (λ q. h (en ∙ sym entries-long ∙ q ∙ sym em)))) refl
 
-      pub verdict : Bytes s → rightLength p s ≡ true → laidOut p R s ≡ true → every (isTable p) ((lists p R s) .schemas) ≡ true → sorted cmpTable ((parse p R s) .tables) ≡ true
-          → Filed p R s → every (referencesHeld ((parse p R s) .tables) ((parse p R s) .rows)) ((parse p R s) .rows) ≡ true → n ≡ m
+      pub verdict : Bytes s → rightLength p s ≡ true → (z : Bool) → z ≡ laidOut p R s → not z ≡ false → cataloged p R s ≡ true → Filed p R s
+          → (a : Bool) → a ≡ every (referencesHeld ((parse p R s) .tables) ((parse p R s) .rows)) ((parse p R s) .rows) → not a ≡ false → n ≡ m
           → (b : Bool) → b ≡ every (enteredRow ((parse p R s) .tables) (entriesIn p R s)) ((parse p R s) .rows) → b ≡ sound p s
-      unfolding cataloged indexTested
-      verdict bs h1 h2 h3 h4 f h5 h6 true eb =
+      unfolding indexTested
+      verdict bs h1 z ez hz h3 f a ea ha h6 true eb =
           sym
           (parts-sound p (k .known) s bs h1
           (subst (λ (j : ℕ). Parts p j s) e
           (record {
-            laid = h2;
-            tables = all-cons _ _ h3 (all-cons _ _ h4 all-nil);
+            laid = was-true ez hz;
+            tables = h3;
             faults = f .tabled .schemed .faults;
             rows = f .tabled .rows;
-            links = h5;
+            links = was-true ea ha;
             index = all-cons _ _ (f .entries) (all-cons _ _ (f .sorted) (all-cons _ _ (eq-eqb _ _ (entries-long ∙ sym en ∙ h6 ∙ em)) (all-cons _ _ (sym eb) all-nil)));
           })) k)
-      verdict bs h1 h2 h3 h4 f h5 h6 false eb = no _ (λ x. all-head _ _ (all-tail _ _ (all-tail _ _ (all-tail _ _ (x .index))))) (sym eb)
+      verdict bs h1 z ez hz h3 f a ea ha h6 false eb = no _ (λ x. all-head _ _ (all-tail _ _ (all-tail _ _ (all-tail _ _ (x .index))))) false eb refl

@@ -1,12 +1,15 @@
 -- A test of each element of a list and of each two neighbours, asked from a place on. Assumes nothing.
 use mathlib.Core.Path.{_≡_, refl, sym, ap, _∙_}
-use mathlib.Core.Bool.{Bool, true, false, _&&_}
-use Prim.Native.Nat.{ℕ, suc, _+_, _-_, _≤_, _<_, Ordering}
+use mathlib.Core.Bool.{Bool, true, false, not, _&&_}
+use Prim.Native.Nat.{ℕ, suc, _+_, _-_, _^_, _≤_, _<_, Ordering}
+use mir.Syntax.{w8, w64}
+use mir.Val.{Fits}
 use native.Mathlib.Numerals.{add-one}
 use native.Mathlib.Omega.{arith}
-use mathlib.Core.List.{List, [], _∷_, map}
+use mathlib.Core.List.{List, [], _∷_}
 use lib.ListN.{length, getD, drop, length-drop, drop-of-length-le}
 use lib.Seq.{drop-cons}
+use borrow.Author.Tests.{not-true, not-false}
 use mathlib.Core.Option.{some}
 use Rattle.values.specs.Basic.{isLt, nth}
 use Rattle.values.specs.Value.{Value}
@@ -20,54 +23,75 @@ short-sorted cmp [] h = refl
 short-sorted cmp (x ∷ []) h = refl
 short-sorted cmp (x ∷ y ∷ ys) h = absurd (omega arith)
 
-module _ {A : Type 0} (d : A) (xs : List A) where
-  next-there : (i : ℕ) → i < length xs → drop i xs ≡ getD xs i d ∷ drop (i + 1) xs
-  next-there i h = drop-cons xs i d h ∙ ap (λ (n : ℕ). getD xs i d ∷ drop n xs) (sym (add-one i))
+-- ---- one turn: a test b in front of those that are left
 
-  module _ (f : A → Bool) where
-    pub every-stop : (i : ℕ) → i < length xs → f (getD xs i d) ≡ false → every f (drop i xs) ≡ false
-    unfolding every
-    every-stop i h e = ap (every f) (next-there i h) ∙ rw e
+-- a turn more leaves fewer, and its number fits in a word, as a byte does
+pub fewer-left : (n i : ℕ) → i < n → n - (i + 1) < n - i
+fewer-left n i h = omega arith
 
-    pub every-next : (i : ℕ) → i < length xs → f (getD xs i d) ≡ true → every f (drop i xs) ≡ every f (drop (i + 1) xs)
-    unfolding every
-    every-next i h e = ap (every f) (next-there i h) ∙ rw e
+pub next-fits : (n i : ℕ) → i < n → n < 2 ^ 64 → Fits w64 (i + 1)
+next-fits n i h l = record { fits = omega arith }
 
-    pub every-end : (i : ℕ) → length xs ≤ i → every f (drop i xs) ≡ true
-    unfolding every
-    every-end i h = ap (every f) (drop-of-length-le xs h)
+pub byte-fits : {n : ℕ} → Fits w8 n → Fits w64 n
+byte-fits h = record { fits = omega (arith, h .fits) }
 
-  -- neighbours at i - 1 and i
-  module _ (cmp : A → A → Ordering) where
-    two-there : (i : ℕ) → 1 ≤ i → i < length xs → drop (i - 1) xs ≡ getD xs (i - 1) d ∷ getD xs i d ∷ drop (i + 1) xs
-    two-there i h l =
-        let e : i - 1 + 1 ≡ i = omega arith in
-        next-there (i - 1) (omega arith) ∙ ap (λ (n : ℕ). getD xs (i - 1) d ∷ drop n xs) e ∙ ap (λ (l : List A). getD xs (i - 1) d ∷ l) (next-there i l)
+pub last-below : (n i : ℕ) → i < n → i - 1 < n
+last-below n i h = omega arith
 
-    pub sorted-stop : (i : ℕ) → 1 ≤ i → i < length xs → isLt (cmp (getD xs (i - 1) d) (getD xs i d)) ≡ false → sorted cmp (drop (i - 1) xs) ≡ false
-    unfolding sorted
-    sorted-stop i h l e = ap (sorted cmp) (two-there i h l) ∙ rw e
+-- the test fails, and so does the whole; or the rest is the whole
+abbrev pub Turn : Bool → Bool → Type 0 → Type 0
+Turn b whole next = (not b ≡ true → false ≡ whole) × (not b ≡ false → next)
 
-    pub sorted-next : (i : ℕ) → 1 ≤ i → i < length xs → isLt (cmp (getD xs (i - 1) d) (getD xs i d)) ≡ true → sorted cmp (drop (i - 1) xs) ≡ sorted cmp (drop (i + 1 - 1) xs)
-    unfolding sorted
-    sorted-next i h l e =
-        let g : i + 1 - 1 ≡ i = omega arith in
-        ap (sorted cmp) (two-there i h l) ∙ rw (e, g) (ap (sorted cmp) (sym (next-there i l)))
+turn-of : (b whole rest : Bool) → whole ≡ (b && rest) → Turn b whole (whole ≡ rest)
+turn-of b whole rest e = (λ t. sym (e ∙ ap (λ (x : Bool). x && rest) (not-true b t)), λ t. e ∙ ap (λ (x : Bool). x && rest) (not-false b t))
 
-    pub sorted-end : (i : ℕ) → 1 ≤ i → length xs ≤ i → sorted cmp (drop (i - 1) xs) ≡ true
-    sorted-end i h l = short-sorted cmp (drop (i - 1) xs) (simp length-drop (omega arith))
+next-there : {A : Type 0} (d : A) (xs : List A) (i : ℕ) → i < length xs → drop i xs ≡ getD xs i d ∷ drop (i + 1) xs
+next-there d xs i h = drop-cons xs i d h ∙ ap (λ (n : ℕ). getD xs i d ∷ drop n xs) (sym (add-one i))
 
-module _ {A B : Type 0} (g : A → B) where
-  pub every-map-is : (f : B → Bool) (xs : List A) → every f (map g xs) ≡ every (λ x. f (g x)) xs
+-- ---- a test of each element
+
+module _ {A : Type 0} (f : A → Bool) (xs : List A) where
+  abbrev pub Asked : ℕ → Type 0
+  Asked i = every f xs ≡ every f (drop i xs)
+
+  abbrev pub Turned : ℕ → Bool → Type 0
+  Turned i b = Turn b (every f xs) (every f xs ≡ every f (drop (i + 1) xs))
+
+  pub asked-turn : (d : A) (i : ℕ) (b : Bool) → Asked i → i < length xs → b ≡ f (getD xs i d) → Turned i b
   unfolding every
-  every-map-is f [] = refl
-  every-map-is f (x ∷ xs) = rw (every-map-is f xs)
+  asked-turn d i b k h e =
+      turn-of b (every f xs) (every f (drop (i + 1) xs)) (k ∙ ap (every f) (next-there d xs i h) ∙ ap (λ (x : Bool). x && every f (drop (i + 1) xs)) (sym e))
 
-  pub sorted-map-is : (cmp : B → B → Ordering) (xs : List A) → sorted cmp (map g xs) ≡ sorted (λ x y. cmp (g x) (g y)) xs
+  pub asked-end : (i : ℕ) → Asked i → length xs ≤ i → true ≡ every f xs
+  unfolding every
+  asked-end i k h = sym (k ∙ ap (every f) (drop-of-length-le xs h))
+
+-- ---- a test of each two neighbours, at i - 1 and i
+
+module _ {A : Type 0} (cmp : A → A → Ordering) (xs : List A) where
+  abbrev pub Rising : ℕ → Type 0
+  Rising i = (1 ≤ i) × (sorted cmp xs ≡ sorted cmp (drop (i - 1) xs))
+
+  abbrev pub Risen : ℕ → Bool → Type 0
+  Risen i b = Turn b (sorted cmp xs) ((1 ≤ i + 1) × (sorted cmp xs ≡ sorted cmp (drop (i + 1 - 1) xs)))
+
+  two-there : (d : A) (i : ℕ) → 1 ≤ i → i < length xs → drop (i - 1) xs ≡ getD xs (i - 1) d ∷ getD xs i d ∷ drop (i + 1) xs
+  two-there d i h l =
+      let e : i - 1 + 1 ≡ i = omega arith in
+      next-there d xs (i - 1) (omega arith) ∙ ap (λ (n : ℕ). getD xs (i - 1) d ∷ drop n xs) e ∙ ap (λ (l : List A). getD xs (i - 1) d ∷ l) (next-there d xs i l)
+
+  pub rising-turn : (d : A) (i : ℕ) (b : Bool) → Rising i → i < length xs → b ≡ isLt (cmp (getD xs (i - 1) d) (getD xs i d)) → Risen i b
   unfolding sorted
-  sorted-map-is cmp [] = refl
-  sorted-map-is cmp (x ∷ []) = refl
-  sorted-map-is cmp (x ∷ y ∷ ys) = ap (λ (b : Bool). isLt (cmp (g x) (g y)) && b) (sorted-map-is cmp (y ∷ ys))
+  rising-turn d i b k h e =
+      let g : i + 1 - 1 ≡ i = omega arith in
+      let t =
+      turn-of b (sorted cmp xs) (sorted cmp (getD xs i d ∷ drop (i + 1) xs))
+      (k .1 ∙ ap (sorted cmp) (two-there d i (k .0) h) ∙ ap (λ (x : Bool). x && sorted cmp (getD xs i d ∷ drop (i + 1) xs)) (sym e))
+      in
+      (t .0, λ q. (omega arith, t .1 q ∙ ap (sorted cmp) (sym (next-there d xs i h) ∙ ap (λ (n : ℕ). drop n xs) (sym g))))
+
+  pub rising-end : (i : ℕ) → Rising i → length xs ≤ i → true ≡ sorted cmp xs
+  rising-end i k l = sym (k .1 ∙ short-sorted cmp (drop (i - 1) xs) (simp length-drop (omega (arith, k .0))))
 
 -- ---- a test of each column with its cell
 
@@ -83,12 +107,13 @@ module _ (f : ℕ → Column → Value → Bool) (cs : List Column) (vs : List V
       ∙ ap (λ (l : List Value). everyCell f i (c ∷ drop (suc i) cs) l) (drop-nth vs i v k)
       ∙ ap (λ (n : ℕ). f i c v && everyCell f n (drop n cs) (drop n vs)) (sym (add-one i))
 
-  module _ (i : ℕ) (w : Cells i) (c : Column) (v : Value) (h : nth cs i ≡ some c) (k : nth vs i ≡ some v) where
-    pub cell-stop : f i c v ≡ false → false ≡ everyCell f 0 cs vs
-    cell-stop e = sym (w ∙ cells-there i c v h k ∙ rw e)
+  abbrev pub CellTurned : ℕ → Bool → Type 0
+  CellTurned i b = Turn b (everyCell f 0 cs vs) (everyCell f 0 cs vs ≡ everyCell f (i + 1) (drop (i + 1) cs) (drop (i + 1) vs))
 
-    pub cell-next : f i c v ≡ true → Cells (i + 1)
-    cell-next e = w ∙ cells-there i c v h k ∙ rw e
+  pub cell-turn : (i : ℕ) (c : Column) (v : Value) (b : Bool) → Cells i → nth cs i ≡ some c → nth vs i ≡ some v → b ≡ f i c v → CellTurned i b
+  cell-turn i c v b w h k e =
+      turn-of b (everyCell f 0 cs vs) (everyCell f (i + 1) (drop (i + 1) cs) (drop (i + 1) vs))
+      (w ∙ cells-there i c v h k ∙ ap (λ (x : Bool). x && everyCell f (i + 1) (drop (i + 1) cs) (drop (i + 1) vs)) (sym e))
 
   pub cells-end : (i : ℕ) → Cells i → length cs ≤ i → true ≡ everyCell f 0 cs vs
   unfolding everyCell

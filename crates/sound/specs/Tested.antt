@@ -3,7 +3,7 @@
 use mathlib.Core.Path.{_≡_}
 use Prim.Native.Nat.{ℕ, suc, _+_, _*_, _<_}
 use mathlib.Core.Bool.{Bool, true, false, not, _&&_, cond}
-use mathlib.Core.List.{List, [], _∷_, map}
+use mathlib.Core.List.{List, [], _∷_}
 use mathlib.Core.Option.{some}
 use lib.Dec.{eqb, leb, isEq}
 use lib.ListN.{length, getD, take, drop}
@@ -23,6 +23,7 @@ use Rattle.rules.specs.Index.{Entry, cmpEntry, entryAt, entriesOf}
 use Rattle.rules.specs.Layout.{Area, Schemas, Rows, Entries, countPlace, countWidth, areaAt, recordWidth, areaPlaces, tablesCount, rowsCount, entriesCount, lists, columnRecord, readColumn, tableRecord, readTable, rowRecord, readRow, readCells, entryRecord, readEntry, parse}
 use Rattle.rules.specs.Sound.{all, every, sorted, goodColumn, goodTable, faultless, everyCell, ofItsTable, hasTable, goodCells, rightKinds, keyDefined}
 use Rattle.laid.specs.Catalog.{TableBytes, Catalog}
+use Rattle.laid.specs.Entered.{entriesIn}
 
 -- ---- the layout
 
@@ -107,10 +108,6 @@ pub record Tabled (p : Profile) (R : ℕ) (s : List ℕ) : Type 0 where
 
 -- ---- the index
 
--- the entries that any bytes stand for
-unfoldable pub entriesIn : Profile → ℕ → List ℕ → List Entry
-entriesIn p R s = map (readEntry p) ((lists p R s) .entries)
-
 unfoldable pub isEntry : Profile → List ℕ → Bool
 isEntry p r = leqb (entryRecord p (readEntry p r)) r
 
@@ -118,9 +115,6 @@ isEntry p r = leqb (entryRecord p (readEntry p r)) r
 unfoldable pub entriesWanted : List Table → List Row → ℕ
 entriesWanted ts [] = 0
 entriesWanted ts (r ∷ rs) = length (entriesOf ts r) + entriesWanted ts rs
-
-abbrev pub entryOf : Name → ℕ → Value → Value → Entry
-entryOf n i v k = record { table = n; column = i; value = v; key = k }
 
 -- of this table, column and value; of those of another
 abbrev pub inGroup : Name → ℕ → Value → Entry → Bool

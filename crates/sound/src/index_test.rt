@@ -25,9 +25,10 @@ ghost use Rattle.rules.specs.Index.{cmpEntry, entriesOf};
 ghost use Rattle.rules.specs.Layout.{lists, readTable, readRow, readEntry, parse};
 ghost use Rattle.rules.specs.Sound.{every, sorted, everyCell};
 ghost use Rattle.laid.specs.Store.{Coded, Inside};
-ghost use Rattle.sound.specs.Tested.{Here, cellsIn, Tabled, isEntry, entriesIn, entriesWanted, entryOf, stands, followed, inGroup, enteredAs, enteredCell, enteredRow, Filed};
+ghost use Rattle.sound.specs.Tested.{Here, cellsIn, Tabled, isEntry, entriesWanted, stands, followed, inGroup, enteredAs, enteredCell, enteredRow, Filed};
 ghost use Rattle.laid.specs.Column.{columnOf};
 ghost use Rattle.laid.specs.Catalog.{TableBytes};
+ghost use Rattle.laid.specs.Entered.{entriesIn, entryOf};
 
 // Whether the bytes are an index entry's record.
 fn is_entry(rec: &[u8], p: Profile) -> bool
@@ -178,7 +179,7 @@ fn is_entered(
     alone: bool,
 ) -> bool
     requires { ⌜ Filed p places (now s) × Packed name × Proper v × Proper key ⌝ }
-    ensures { λ r. ⌜ r ≡ (stands (entriesIn p places (now (s .entry))) (entryOf (textBytes name) column (meaning v) (meaning key)) && not (alone && followed (entriesIn p places (now (s .entry))) (entryOf (textBytes name) column (meaning v) (meaning key)))) ⌝ }
+    ensures { λ r. ⌜ r ≡ (stands (entriesIn p places (now (s .entry))) (entryOf name column v key) && not (alone && followed (entriesIn p places (now (s .entry))) (entryOf name column v key))) ⌝ }
 {
     let count = layout::entry_count(s);
     let width = layout::entry_width(p);
@@ -225,7 +226,7 @@ fn is_cell_entered(
     key: Value,
 ) -> bool
     requires { ⌜ Filed p places (now s) × Packed name × Proper v × Proper key ⌝ }
-    ensures { λ r. ⌜ r ≡ enteredAs (entriesIn p places (now (s .entry))) (columnOf c) (meaning v) (entryOf (textBytes name) column (meaning v) (meaning key)) ⌝ }
+    ensures { λ r. ⌜ r ≡ enteredAs (entriesIn p places (now (s .entry))) (columnOf c) (meaning v) (entryOf name column v key) ⌝ }
 {
     if !c.index {
         return true;

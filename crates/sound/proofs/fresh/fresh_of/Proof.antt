@@ -1,20 +1,20 @@
 -- `sound::fresh::fresh_of` meets its contract. Assumes nothing.
-use mathlib.Core.Path.{_≡_, refl, sym, _∙_}
+use mathlib.Core.Path.{_≡_, refl}
 use mathlib.Core.Bool.{true}
 use Prim.Native.Nat.{_≤_}
 use native.Mathlib.Omega.{arith}
 use lib.ListN.{length, length-append, length-drop}
 use borrow.Author.Needs.{needs}
-use borrow.Author.Tests.{not-true, not-false}
 use Rattle.rules.specs.Profile.{headerWidth}
 use Rattle.rules.specs.Sound.{rightLength}
+use Rattle.sound.proofs.Headers.{was-false, was-true}
 use Rattle.sound.proofs.Lengths.{not-fresh, freshened, cleared-header, freshened-long}
 use Rattle.sound.proofs.fresh.fresh_of.Statement.{statement}
 use Rattle.sound.proofs.fresh.fresh_of.Tie as tie
 
 -- the length is right, and the cleared buffer holds the header
 right : (c : tie.After-clear) → rightLength (c .before .before .before .before .before .before .args .p) (c .before .before .before .before .before .before .args .s .now) ≡ true
-right c = sym (c .before .before .before .right-length .ensures) ∙ not-false _ (c .before .before .if1 .left)
+right c = was-true (c .before .before .before .right-length .ensures) (c .before .before .if1 .left)
 
 header : (c : tie.After-clear) → headerWidth ≤ length (c .clear .last .0)
 header c = cleared-header _ _ _ (right c) (c .clear .ensures)
@@ -30,7 +30,7 @@ same-length c = search needs
 
 returns : tie.Need-returns
 returns c =
-    let a = c .before .before .before .before .before .args in not-fresh (a .p) (a .s .now) _ (sym (c .before .before .right-length .ensures) ∙ not-true _ (c .before .if1 .taken)) (c .refused .ensures)
+    let a = c .before .before .before .before .before .args in not-fresh (a .p) (a .s .now) _ (was-false (c .before .before .right-length .ensures) (c .before .if1 .taken)) (c .refused .ensures)
 
 clear-requires : tie.Need-clear-requires
 clear-requires c κs = search needs

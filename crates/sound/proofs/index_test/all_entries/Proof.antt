@@ -4,6 +4,7 @@ use Prim.Native.Nat.{_-_, _+_, _*_, _≤_, _<_}
 use native.Mathlib.Omega.{arith}
 use Rattle.rules.specs.Layout.{Rows}
 use Rattle.laid.proofs.Inside.{inside-header, area-count}
+use Rattle.sound.proofs.Walks.{fewer-left}
 use Rattle.sound.proofs.AreaWalks.{below, wide-of}
 use Rattle.sound.proofs.Linking.{wantedFrom, wanted-next, wanted-end}
 use Rattle.sound.proofs.index_test.all_entries.Statement.{statement}
@@ -46,7 +47,7 @@ add-i : tie.Need-add-i Inv-loop μ-loop
 add-i c = omega (arith, few c)
 
 loop-less : tie.Need-loop-less Inv-loop μ-loop
-loop-less c = omega arith
+loop-less c = fewer-left _ _ (c .before .before .loop-test .taken)
 
 loop-again : tie.Need-loop-again Inv-loop μ-loop
 loop-again c =

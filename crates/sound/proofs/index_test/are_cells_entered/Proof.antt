@@ -1,18 +1,18 @@
 -- `sound::index_test::are_cells_entered` meets its contract. Assumes nothing.
-use mathlib.Core.Path.{_≡_, refl, ap, _∙_}
+use mathlib.Core.Path.{_≡_, refl}
 use Prim.Native.Nat.{_-_, _+_, _≤_, _<_}
 use native.Mathlib.Omega.{arith}
 use lib.ListN.{length, getD, length-take, length-drop}
-use Rattle.values.specs.Meaning.{textBytes, meaning}
+use Rattle.values.specs.Meaning.{textBytes}
 use Rattle.rules.specs.Profile.{rowWidth}
 use Rattle.rules.specs.Layout.{parse, readTable, readRow}
 use Rattle.laid.specs.Column.{columnOf}
-use Rattle.sound.specs.Tested.{cellsIn, entriesIn, enteredAs, enteredCell}
-use Rattle.rules.specs.Index.{Entry}
+use Rattle.laid.specs.Entered.{entriesIn}
+use Rattle.sound.specs.Tested.{cellsIn, enteredCell}
 use Rattle.laid.proofs.Columns.{count-byte, columns-few, record-least}
-use Rattle.sound.proofs.Walks.{Cells}
-use Rattle.sound.proofs.Rowing.{row-cell-fits, row-stop, row-next, row-end}
-use Rattle.sound.proofs.EntryTests.{entry-is}
+use Rattle.sound.proofs.Walks.{Cells, CellTurned, fewer-left}
+use Rattle.sound.proofs.Rowing.{row-cell-fits, row-turn, row-end}
+use Rattle.sound.proofs.EntryTests.{entered-cell-is}
 use Rattle.sound.proofs.index_test.are_cells_entered.Statement.{statement}
 use Rattle.sound.proofs.index_test.are_cells_entered.Tie as tie
 
@@ -38,15 +38,6 @@ few c =
 
 inner : (c : tie.In-loop Inv-loop μ-loop) → c .before .loop .i < getD (c .before .before .before .before .before .before .before .before .before .before .args .rec .now) 26 0
 inner c = omega (arith, c .before .loop .inv .0, c .loop-test .taken)
-
-asked : (c : tie.After-is-cell-entered Inv-loop μ-loop) →
-    let a = c .before .before .before .before .before .before .before .before .before .before .before .before .before .args in
-    c .is-cell-entered .result ≡ enteredCell (entriesIn (a .p) (a .places) (a .s .now)) (readRow (a .p) ((parse (a .p) (a .places) (a .s .now)) .tables) (a .row .now)) (c .before .before .before .before .loop .i) (columnOf (c .before .before .read-column .result)) (meaning (c .before .cell-at .result .value))
-unfolding enteredCell
-asked c =
-    let a = c .before .before .before .before .before .before .before .before .before .before .before .before .before .args in
-    let q = c .before .before .before .before .before .before .before .before .before .before .before .before .before .pre in
-    c .is-cell-entered .ensures ∙ ap (λ (x : Entry). enteredAs (entriesIn (a .p) (a .places) (a .s .now)) (columnOf (c .before .before .read-column .result)) (meaning (c .before .cell-at .result .value)) x) (entry-is (a .p) (a .places) (a .s .now) (a .row .now) (a .rec .now) (q .1 .bytes .coded) (q .1) (textBytes (c .before .before .before .before .before .before .before .before .before .read-name .result)) (c .before .before .before .before .before .before .before .before .before .read-name .ensures .0) _ (c .before .before .before .before .before .before .before .before .key-at .ensures .0) _ (c .before .before .before .before .before .before .read-cell .ensures .0) (c .before .before .before .before .loop .i) (omega (arith, inner (c .before .before .before), count-byte (a .p) (a .rec .now))) _ (c .before .cell-at .ensures .0))
 
 read-name-requires : tie.Need-read-name-requires Inv-loop μ-loop
 read-name-requires c κs = long c
@@ -92,21 +83,25 @@ cell-at-requires c κs =
 is-cell-entered-requires : tie.Need-is-cell-entered-requires Inv-loop μ-loop
 is-cell-entered-requires c κs = (c .before .before .before .before .before .before .before .before .before .before .before .before .pre .0, c .before .before .before .before .before .before .before .before .read-name .ensures .1, c .cell-at .ensures .1, c .before .before .before .before .before .read-cell .ensures .1)
 
+turn : (c : tie.After-is-cell-entered Inv-loop μ-loop) →
+    let a = c .before .before .before .before .before .before .before .before .before .before .before .before .before .args in
+    CellTurned (enteredCell (entriesIn (a .p) (a .places) (a .s .now)) (readRow (a .p) ((parse (a .p) (a .places) (a .s .now)) .tables) (a .row .now))) ((readTable (a .p) (a .rec .now)) .columns) (cellsIn (length ((readTable (a .p) (a .rec .now)) .columns)) (a .row .now)) (c .before .before .before .before .loop .i) (c .is-cell-entered .result)
+turn c =
+    let a = c .before .before .before .before .before .before .before .before .before .before .before .before .before .args in
+    let q = c .before .before .before .before .before .before .before .before .before .before .before .before .before .pre in
+    row-turn (a .p) (a .rec .now) (a .row .now) (enteredCell (entriesIn (a .p) (a .places) (a .s .now)) (readRow (a .p) ((parse (a .p) (a .places) (a .s .now)) .tables) (a .row .now))) (q .1 .bytes) (c .before .before .before .before .loop .i) (inner (c .before .before .before)) (c .before .before .before .before .loop .inv .1) (columnOf (c .before .before .read-column .result)) (c .before .before .read-column .ensures .is) _ (c .before .cell-at .ensures .0) _ (entered-cell-is (a .p) (a .places) (a .s .now) (a .row .now) (a .rec .now) (q .1 .bytes .coded) (q .1) (textBytes (c .before .before .before .before .before .before .before .before .before .read-name .result)) (c .before .before .before .before .before .before .before .before .before .read-name .ensures .0) _ (c .before .before .before .before .before .before .before .before .key-at .ensures .0) _ (c .before .before .before .before .before .before .read-cell .ensures .0) (c .before .before .before .before .loop .i) (omega (arith, inner (c .before .before .before), count-byte (a .p) (a .rec .now))) _ (c .before .cell-at .ensures .0) (entriesIn (a .p) (a .places) (a .s .now)) (columnOf (c .before .before .read-column .result)) _ (c .is-cell-entered .ensures))
+
 returns : tie.Need-returns Inv-loop μ-loop
-returns c =
-    let a = c .before .before .before .before .before .before .before .before .before .before .before .before .before .before .args in
-    row-stop (a .p) (a .rec .now) (a .row .now) (enteredCell (entriesIn (a .p) (a .places) (a .s .now)) (readRow (a .p) ((parse (a .p) (a .places) (a .s .now)) .tables) (a .row .now))) (c .before .before .before .before .before .before .before .before .before .before .before .before .before .before .pre .1 .bytes) (c .before .before .before .before .before .loop .i) (inner (c .before .before .before .before)) (c .before .before .before .before .before .loop .inv .1) (columnOf (c .before .before .before .read-column .result)) (c .before .before .before .read-column .ensures .is) _ (c .before .before .cell-at .ensures .0) _ (asked (c .before)) (c .if1 .taken)
+returns c = turn (c .before) .0 (c .if1 .taken)
 
 add-i : tie.Need-add-i Inv-loop μ-loop
 add-i c = omega (arith, inner (c .before .before .before .before), c .before .before .before .before .before .before .shared-slice-known4 .given 26)
 
 loop-less : tie.Need-loop-less Inv-loop μ-loop
-loop-less c = omega arith
+loop-less c = fewer-left _ _ (c .before .before .before .before .loop-test .taken)
 
 loop-again : tie.Need-loop-again Inv-loop μ-loop
-loop-again c =
-    let a = c .before .before .before .before .before .before .before .before .before .before .before .before .before .before .args in
-    (c .before .before .before .before .before .loop .inv .0, row-next (a .p) (a .rec .now) (a .row .now) (enteredCell (entriesIn (a .p) (a .places) (a .s .now)) (readRow (a .p) ((parse (a .p) (a .places) (a .s .now)) .tables) (a .row .now))) (c .before .before .before .before .before .before .before .before .before .before .before .before .before .before .pre .1 .bytes) (c .before .before .before .before .before .loop .i) (inner (c .before .before .before .before)) (c .before .before .before .before .before .loop .inv .1) (columnOf (c .before .before .before .read-column .result)) (c .before .before .before .read-column .ensures .is) _ (c .before .before .cell-at .ensures .0) _ (asked (c .before)) (c .if1 .left))
+loop-again c = (c .before .before .before .before .before .loop .inv .0, turn (c .before) .1 (c .if1 .left))
 
 returns-2 : tie.Need-returns-2 Inv-loop μ-loop
 returns-2 c =

@@ -3,15 +3,19 @@ use mathlib.Core.Path.{_≡_, refl}
 use Prim.Native.Nat.{_-_, _+_, _≤_, _<_}
 use native.Mathlib.Omega.{arith}
 use lib.ListN.{getD}
+use Rattle.rules.specs.Rows.{indexedCount}
+use Rattle.rules.specs.Layout.{readTable}
 use Rattle.laid.specs.Column.{columnOf}
 use Rattle.laid.proofs.Columns.{count-byte, columns-few, record-least}
-use Rattle.sound.proofs.Linking.{indexedFrom, counted-next, counted-end, one-most}
+use Rattle.checks.proofs.Fitting.{indexedFrom, indexed-start}
+use Rattle.sound.proofs.Walks.{fewer-left, byte-fits, next-fits}
+use Rattle.sound.proofs.Linking.{counted-next, counted-end, one-most}
 use borrow.Author.Needs.{needs}
 use Rattle.sound.proofs.index_test.indexed_columns.Statement.{statement}
 use Rattle.sound.proofs.index_test.indexed_columns.Tie as tie
 
 abbrev Inv-loop : tie.InvT-loop
-Inv-loop rec p count n₀ i₀ n i = (count ≡ getD rec 26 0) × (n ≤ i) × (i ≤ count) × (n + indexedFrom p rec i ≡ indexedFrom p rec 0)
+Inv-loop rec p count n₀ i₀ n i = (count ≡ getD rec 26 0) × (n ≤ i) × (i ≤ count) × (n + indexedFrom p rec i ≡ indexedCount (readTable p rec))
 
 abbrev μ-loop : tie.MeasureT-loop
 μ-loop rec p count n₀ i₀ n i = count - i
@@ -35,10 +39,12 @@ shared-slice-read-count c =
     omega (arith, record-least (a .p) (a .rec .now) (c .before .before .pre))
 
 cast-count : tie.Need-cast-count Inv-loop μ-loop
-cast-count c = omega (arith, c .shared-slice-known2 .given 26)
+cast-count c = byte-fits (c .shared-slice-known2 .given 26)
 
 loop-holds : tie.Need-loop-holds Inv-loop μ-loop
-loop-holds c = (refl, omega arith, omega arith, omega arith)
+loop-holds c =
+    let a = c .before .before .args in
+    (refl, omega arith, omega arith, indexed-start (a .p) (a .rec .now))
 
 read-column-requires : tie.Need-read-column-requires Inv-loop μ-loop
 read-column-requires c κs = (c .before .before .before .before .pre, omega (arith, few c, inner c))
@@ -50,10 +56,10 @@ add-n : tie.Need-add-n Inv-loop μ-loop
 add-n c = omega (arith, single c, inner (c .before .before), c .before .before .before .loop .inv .1, c .before .before .before .before .shared-slice-known2 .given 26)
 
 add-i : tie.Need-add-i Inv-loop μ-loop
-add-i c = omega (arith, inner (c .before .before), c .before .before .before .before .shared-slice-known2 .given 26)
+add-i c = next-fits _ _ (inner (c .before .before)) (byte-fits (c .before .before .before .before .shared-slice-known2 .given 26) .fits)
 
 loop-less : tie.Need-loop-less Inv-loop μ-loop
-loop-less c = omega arith
+loop-less c = fewer-left _ _ (c .before .before .loop-test .taken)
 
 loop-again : tie.Need-loop-again Inv-loop μ-loop
 loop-again c =

@@ -3,9 +3,9 @@ use mathlib.Core.Path.{_≡_, refl}
 use Prim.Native.Nat.{_≤_}
 use native.Mathlib.Omega.{arith}
 use lib.ListN.{length}
-use Rattle.values.specs.Meaning.{textBytes, meaning}
 use Rattle.rules.specs.Profile.{entryWidth}
 use Rattle.rules.specs.Layout.{Entries}
+use Rattle.laid.specs.Entered.{entryOf}
 use Rattle.rules.proofs.Widths.{area-within}
 use Rattle.laid.proofs.Inside.{inside-header}
 use Rattle.laid.proofs.Searching.{same-is, not-same}
@@ -48,12 +48,12 @@ entered-before-requires : tie.Need-entered-before-requires
 entered-before-requires c κs =
     let a = c .before .before .before .before .before .args in
     let q = c .before .before .before .before .before .pre in
-    ((omega (arith, wide (c .before .before)), q .1, q .2, q .3), entries-searched (a .p) (a .places) (a .s .now) (q .0) (textBytes (a .name)) (a .column) (meaning (a .v)) (meaning (a .key)) _ _ _ (c .before .entries-at .ensures) (c .before .before .entry-width .ensures) (c .before .before .before .entry-count .ensures))
+    ((omega (arith, wide (c .before .before)), q .1, q .2, q .3), entries-searched (a .p) (a .places) (a .s .now) (q .0) (entryOf (a .name) (a .column) (a .v) (a .key)) _ _ _ (c .before .entries-at .ensures) (c .before .before .entry-width .ensures) (c .before .before .before .entry-count .ensures))
 
 returns : tie.Need-returns
 returns c =
     let a = c .before .before .before .before .before .before .before .args in
-    entry-past (a .p) (a .places) (a .s .now) (c .before .before .before .before .before .before .before .pre .0) (textBytes (a .name)) (a .column) (meaning (a .v)) (meaning (a .key)) _ _ _ (c .before .before .before .entries-at .ensures) (c .before .before .before .before .entry-width .ensures) (c .before .before .before .before .before .entry-count .ensures) _ (c .before .entered-before .ensures) (a .alone) (c .if1 .taken)
+    entry-past (a .p) (a .places) (a .s .now) (c .before .before .before .before .before .before .before .pre .0) (entryOf (a .name) (a .column) (a .v) (a .key)) _ _ _ (c .before .before .before .entries-at .ensures) (c .before .before .before .before .entry-width .ensures) (c .before .before .before .before .before .entry-count .ensures) _ (c .before .entered-before .ensures) (a .alone) (c .if1 .taken)
 
 entry-record-requires : tie.Need-entry-record-requires
 entry-record-requires c κs =
@@ -72,7 +72,7 @@ enum-told c = search needs
 returns-2 : tie.Need-returns-2
 returns-2 c =
     let a = c .before .before .before .before .before .before .before .before .before .before .before .before .args in
-    entry-any (a .p) (a .places) (a .s .now) (c .before .before .before .before .before .before .before .before .before .before .before .before .pre .0) (textBytes (a .name)) (a .column) (meaning (a .v)) (meaning (a .key)) _ _ _ (c .before .before .before .before .before .before .before .before .entries-at .ensures) (c .before .before .before .before .before .before .before .before .before .entry-width .ensures) (c .before .before .before .before .before .before .before .before .before .before .entry-count .ensures) _ (c .before .before .before .before .before .before .entered-before .ensures) (a .alone) (c .before .before .before .before .before .if1 .left) _ (c .before .before .before .before .entry-record .ensures) _ (c .before .before .before .compare-entered .ensures) (same-is (c .before .before .before .compare-entered .result) _ refl (c .before .enum-told .given .1)) (c .if2 .taken)
+    entry-any (a .p) (a .places) (a .s .now) (c .before .before .before .before .before .before .before .before .before .before .before .before .pre .0) (entryOf (a .name) (a .column) (a .v) (a .key)) _ _ _ (c .before .before .before .before .before .before .before .before .entries-at .ensures) (c .before .before .before .before .before .before .before .before .before .entry-width .ensures) (c .before .before .before .before .before .before .before .before .before .before .entry-count .ensures) _ (c .before .before .before .before .before .before .entered-before .ensures) (a .alone) (c .before .before .before .before .before .if1 .left) _ (c .before .before .before .before .entry-record .ensures) _ (c .before .before .before .compare-entered .ensures) (same-is (c .before .before .before .compare-entered .result) _ refl (c .before .enum-told .given .1)) (c .if2 .taken)
 
 add-next : tie.Need-add-next
 add-next c = search needs
@@ -80,7 +80,7 @@ add-next c = search needs
 returns-3 : tie.Need-returns-3
 returns-3 c =
     let a = c .before .before .before .before .before .before .before .before .before .before .before .before .before .args in
-    entry-last (a .p) (a .places) (a .s .now) (c .before .before .before .before .before .before .before .before .before .before .before .before .before .pre .0) (textBytes (a .name)) (a .column) (meaning (a .v)) (meaning (a .key)) _ _ _ (c .before .before .before .before .before .before .before .before .before .entries-at .ensures) (c .before .before .before .before .before .before .before .before .before .before .entry-width .ensures) (c .before .before .before .before .before .before .before .before .before .before .before .entry-count .ensures) _ (c .before .before .before .before .before .before .before .entered-before .ensures) (a .alone) (c .before .before .before .before .before .before .if1 .left) _ (c .before .before .before .before .before .entry-record .ensures) _ (c .before .before .before .before .compare-entered .ensures) (same-is (c .before .before .before .before .compare-entered .result) _ refl (c .before .before .enum-told .given .1)) (c .before .if2 .left) (c .if3 .taken)
+    entry-last (a .p) (a .places) (a .s .now) (c .before .before .before .before .before .before .before .before .before .before .before .before .before .pre .0) (entryOf (a .name) (a .column) (a .v) (a .key)) _ _ _ (c .before .before .before .before .before .before .before .before .before .entries-at .ensures) (c .before .before .before .before .before .before .before .before .before .before .entry-width .ensures) (c .before .before .before .before .before .before .before .before .before .before .before .entry-count .ensures) _ (c .before .before .before .before .before .before .before .entered-before .ensures) (a .alone) (c .before .before .before .before .before .before .if1 .left) _ (c .before .before .before .before .before .entry-record .ensures) _ (c .before .before .before .before .compare-entered .ensures) (same-is (c .before .before .before .before .compare-entered .result) _ refl (c .before .before .enum-told .given .1)) (c .before .if2 .left) (c .if3 .taken)
 
 entry-record-requires-2 : tie.Need-entry-record-requires-2
 entry-record-requires-2 c κs =
@@ -96,12 +96,12 @@ is-alike-requires c κs =
 returns-4 : tie.Need-returns-4
 returns-4 c =
     let a = c .before .before .before .before .before .before .before .before .before .before .before .before .before .before .before .args in
-    entry-next (a .p) (a .places) (a .s .now) (c .before .before .before .before .before .before .before .before .before .before .before .before .before .before .before .pre .0) (textBytes (a .name)) (a .column) (meaning (a .v)) (meaning (a .key)) _ _ _ (c .before .before .before .before .before .before .before .before .before .before .before .entries-at .ensures) (c .before .before .before .before .before .before .before .before .before .before .before .before .entry-width .ensures) (c .before .before .before .before .before .before .before .before .before .before .before .before .before .entry-count .ensures) _ (c .before .before .before .before .before .before .before .before .before .entered-before .ensures) (a .alone) (c .before .before .before .before .before .before .before .before .if1 .left) _ (c .before .before .before .before .before .before .before .entry-record .ensures) _ (c .before .before .before .before .before .before .compare-entered .ensures) (same-is (c .before .before .before .before .before .before .compare-entered .result) _ refl (c .before .before .before .before .enum-told .given .1)) (c .before .before .before .if2 .left) (c .before .before .if3 .left) _ (c .before .entry-record2 .ensures) _ (c .is-alike .ensures)
+    entry-next (a .p) (a .places) (a .s .now) (c .before .before .before .before .before .before .before .before .before .before .before .before .before .before .before .pre .0) (entryOf (a .name) (a .column) (a .v) (a .key)) _ _ _ (c .before .before .before .before .before .before .before .before .before .before .before .entries-at .ensures) (c .before .before .before .before .before .before .before .before .before .before .before .before .entry-width .ensures) (c .before .before .before .before .before .before .before .before .before .before .before .before .before .entry-count .ensures) _ (c .before .before .before .before .before .before .before .before .before .entered-before .ensures) (a .alone) (c .before .before .before .before .before .before .before .before .if1 .left) _ (c .before .before .before .before .before .before .before .entry-record .ensures) _ (c .before .before .before .before .before .before .compare-entered .ensures) (same-is (c .before .before .before .before .before .before .compare-entered .result) _ refl (c .before .before .before .before .enum-told .given .1)) (c .before .before .before .if2 .left) (c .before .before .if3 .left) _ (c .before .entry-record2 .ensures) _ (c .is-alike .ensures)
 
 returns-5 : tie.Need-returns-5
 returns-5 c =
     let a = c .before .before .before .before .before .before .before .before .before .before .args in
-    entry-elsewhere (a .p) (a .places) (a .s .now) (c .before .before .before .before .before .before .before .before .before .before .pre .0) (textBytes (a .name)) (a .column) (meaning (a .v)) (meaning (a .key)) _ _ _ (c .before .before .before .before .before .before .entries-at .ensures) (c .before .before .before .before .before .before .before .entry-width .ensures) (c .before .before .before .before .before .before .before .before .entry-count .ensures) _ (c .before .before .before .before .entered-before .ensures) (a .alone) (c .before .before .before .if1 .left) _ (c .before .before .entry-record .ensures) _ (c .before .compare-entered .ensures) (not-same (c .before .compare-entered .result) _ refl (c .match .keys2))
+    entry-elsewhere (a .p) (a .places) (a .s .now) (c .before .before .before .before .before .before .before .before .before .before .pre .0) (entryOf (a .name) (a .column) (a .v) (a .key)) _ _ _ (c .before .before .before .before .before .before .entries-at .ensures) (c .before .before .before .before .before .before .before .entry-width .ensures) (c .before .before .before .before .before .before .before .before .entry-count .ensures) _ (c .before .before .before .before .entered-before .ensures) (a .alone) (c .before .before .before .if1 .left) _ (c .before .before .entry-record .ensures) _ (c .before .compare-entered .ensures) (not-same (c .before .compare-entered .result) _ refl (c .match .keys2))
 
 pub is-entered-spec : {M : Type 1} → statement M
 is-entered-spec =

@@ -30,7 +30,7 @@ returns : tie.Need-returns
 returns c =
     let a = c .before .before .before .before .args in
     let q = c .before .before .before .before .pre in
-    entry-1 (a .p) (q .0) (a .rec .now) (λ i. omega (arith, c .before .before .before .shared-slice-known .given i)) (q .1) _ (c .before .is-name-cell .ensures) (c .if1 .taken)
+    entry-1 (a .p) (q .0) (a .rec .now) (λ i. c .before .before .before .shared-slice-known .given i .fits) (q .1) _ (c .before .is-name-cell .ensures) (c .if1 .taken)
 
 sub-is-cell : tie.Need-sub-is-cell
 sub-is-cell c = search needs
@@ -48,7 +48,7 @@ returns-2 : tie.Need-returns-2
 returns-2 c =
     let a = c .before .before .before .before .before .before .before .args in
     let q = c .before .before .before .before .before .before .before .pre in
-    entry-2 (a .p) (q .0) (a .rec .now) (λ i. omega (arith, c .before .before .before .before .before .before .shared-slice-known .given i)) (q .1) _ (c .before .before .before .before .is-name-cell .ensures) (c .before .before .before .if1 .left) _ (c .before .is-cell .ensures) (c .if2 .taken)
+    entry-2 (a .p) (q .0) (a .rec .now) (λ i. c .before .before .before .before .before .before .shared-slice-known .given i .fits) (q .1) _ (c .before .before .before .before .is-name-cell .ensures) (c .before .before .before .if1 .left) _ (c .before .is-cell .ensures) (c .if2 .taken)
 
 sub-is-cell-2 : tie.Need-sub-is-cell-2
 sub-is-cell-2 c = search needs
@@ -66,7 +66,7 @@ returns-3 : tie.Need-returns-3
 returns-3 c =
     let a = c .before .before .before .before .before .before .before .before .before .args in
     let q = c .before .before .before .before .before .before .before .before .before .pre in
-    entry-3 (a .p) (q .0) (a .rec .now) (λ i. omega (arith, c .before .before .before .before .before .before .before .before .shared-slice-known .given i)) (q .1) _ (c .before .before .before .before .before .before .is-name-cell .ensures) (c .before .before .before .before .before .if1 .left) _ (c .before .before .before .is-cell .ensures) (c .before .before .if2 .left) _ (c .is-cell2 .ensures)
+    entry-3 (a .p) (q .0) (a .rec .now) (λ i. c .before .before .before .before .before .before .before .before .shared-slice-known .given i .fits) (q .1) _ (c .before .before .before .before .before .before .is-name-cell .ensures) (c .before .before .before .before .before .if1 .left) _ (c .before .before .before .is-cell .ensures) (c .before .before .if2 .left) _ (c .is-cell2 .ensures)
 
 pub is-entry-spec : {M : Type 1} → statement M
 is-entry-spec =

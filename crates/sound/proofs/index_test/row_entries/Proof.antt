@@ -1,17 +1,13 @@
 -- `sound::index_test::row_entries` meets its contract. Assumes nothing.
-use mathlib.Core.Path.{sym, ap, _∙_, subst}
 use Prim.Native.Nat.{_≤_}
 use native.Mathlib.Omega.{arith}
 use lib.ListN.{length}
 use Rattle.values.specs.Cell.{readName}
 use Rattle.values.specs.Meaning.{textBytes}
 use Rattle.rules.specs.Profile.{rowWidth}
-use Rattle.rules.specs.State.{tableNamed}
 use Rattle.rules.specs.Layout.{parse, readTable}
-use Rattle.laid.specs.Catalog.{foundAt}
 use Rattle.sound.specs.Tested.{Here}
-use Rattle.laid.proofs.Searching.{found-within}
-use Rattle.sound.proofs.Rowing.{here-of, nowhere}
+use Rattle.sound.proofs.Rowing.{found-none, found-below, found-here}
 use Rattle.sound.proofs.Linking.{entries-nowhere, entries-here}
 use borrow.Author.Needs.{needs}
 use Rattle.sound.proofs.index_test.row_entries.Statement.{statement}
@@ -26,7 +22,7 @@ found : (c : tie.After-table-record) →
     Here (a .p) (a .places) (a .s .now) (readName (a .row .now)) (c .table-record .result .now)
 found c =
     let a = c .before .before .before .before .before .before .before .before .args in
-    subst (λ n. Here (a .p) (a .places) (a .s .now) n (c .table-record .result .now)) (c .before .before .before .before .before .read-name .ensures .0) (here-of (a .p) (a .places) (a .s .now) (c .before .before .before .before .before .before .before .before .pre .0 .schemed) (textBytes (c .before .before .before .before .before .read-name .result)) (c .before .before .i .given .0 .0) _ (ap foundAt (sym (c .before .before .i .given .1)) ∙ c .before .before .before .before .get-table .ensures) (c .table-record .ensures))
+    found-here (a .p) (a .places) (a .s .now) (textBytes (c .before .before .before .before .before .read-name .result)) (c .before .before .before .before .get-table .result) (c .before .before .before .before .get-table .ensures) (c .before .before .i .given .0 .0) (c .before .before .i .given .1) (c .before .before .before .before .before .before .before .before .pre .0 .schemed) _ (c .table-record .ensures) _ (c .before .before .before .before .before .read-name .ensures .0)
 
 read-name-requires : tie.Need-read-name-requires
 read-name-requires c κs = long c
@@ -43,12 +39,12 @@ enum-told c = search needs
 returns : tie.Need-returns
 returns c =
     let a = c .before .before .before .before .before .before .args in
-    (entries-nowhere (a .p) ((parse (a .p) (a .places) (a .s .now)) .tables) (a .row .now) (ap (tableNamed ((parse (a .p) (a .places) (a .s .now)) .tables)) (sym (c .before .before .before .read-name .ensures .0)) ∙ nowhere (a .p) (a .places) (a .s .now) (textBytes (c .before .before .before .read-name .result)) (ap foundAt (sym (c .enum-told .given .1)) ∙ c .before .before .get-table .ensures)), omega arith)
+    (entries-nowhere (a .p) ((parse (a .p) (a .places) (a .s .now)) .tables) (a .row .now) (found-none (a .p) (a .places) (a .s .now) (textBytes (c .before .before .before .read-name .result)) (c .before .before .get-table .result) (c .before .before .get-table .ensures) _ (c .before .before .before .read-name .ensures .0) (c .enum-told .given .1)), omega arith)
 
 table-record-requires : tie.Need-table-record-requires
 table-record-requires c κs =
     let a = c .before .before .before .before .before .before .before .args in
-    (c .before .before .before .before .before .before .before .pre .0 .schemed .catalog .inside, found-within (a .p) (a .places) (a .s .now) (textBytes (c .before .before .before .before .read-name .result)) (c .before .i .given .0 .0) (ap foundAt (sym (c .before .i .given .1)) ∙ c .before .before .before .get-table .ensures))
+    (c .before .before .before .before .before .before .before .pre .0 .schemed .catalog .inside, found-below (a .p) (a .places) (a .s .now) (textBytes (c .before .before .before .before .read-name .result)) (c .before .before .before .get-table .result) (c .before .before .before .get-table .ensures) (c .before .i .given .0 .0) (c .before .i .given .1))
 
 indexed-columns-requires : tie.Need-indexed-columns-requires
 indexed-columns-requires c κs = found c .bytes

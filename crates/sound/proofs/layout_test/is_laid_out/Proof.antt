@@ -1,13 +1,12 @@
 -- `sound::layout_test::is_laid_out` meets its contract. Assumes nothing.
-use mathlib.Core.Path.{_≡_, refl, sym, _∙_}
+use mathlib.Core.Path.{_≡_, refl}
 use mathlib.Core.Bool.{true}
 use native.Mathlib.Omega.{arith}
-use borrow.Author.Tests.{not-true, not-false}
 use Rattle.rules.specs.Layout.{Schemas, Rows, Entries}
 use Rattle.rules.proofs.Widths.{header-within, entries-most}
 use Rattle.sound.specs.Tested.{headed, spare}
 use Rattle.sound.proofs.LaidOut.{headed-is}
-use Rattle.sound.proofs.Headers.{area-asked, area-told, laid-1, laid-2, laid-3, laid-4}
+use Rattle.sound.proofs.Headers.{was-false, was-true, area-asked, area-told, laid-1, laid-2, laid-3, laid-4}
 use borrow.Author.Needs.{needs}
 use Rattle.sound.proofs.layout_test.is_laid_out.Statement.{statement}
 use Rattle.sound.proofs.layout_test.is_laid_out.Tie as tie
@@ -15,7 +14,7 @@ use Rattle.sound.proofs.layout_test.is_laid_out.Tie as tie
 head : (c : tie.Else1) →
     let a = c .before .before .before .args in
     headed (a .p) (a .places) (a .s .now) ≡ true
-head c = sym (c .before .is-headed .ensures) ∙ not-false _ (c .if1 .left)
+head c = was-true (c .before .is-headed .ensures) (c .if1 .left)
 
 told-1 : (c : tie.After-is-spare) →
     let a = c .before .before .before .before .before .before .args in
@@ -31,7 +30,7 @@ is-headed-requires : tie.Need-is-headed-requires
 is-headed-requires c κs = search needs
 
 returns : tie.Need-returns
-returns c = laid-1 _ _ _ _ (c .before .is-headed .ensures) (not-true _ (c .if1 .taken))
+returns c = laid-1 _ _ _ _ (c .before .is-headed .ensures) (c .if1 .taken)
 
 table-count-requires : tie.Need-table-count-requires
 table-count-requires c κs =
@@ -45,7 +44,7 @@ is-spare-requires : tie.Need-is-spare-requires
 is-spare-requires c κs = area-asked _ _ _ (c .before .before .before .before .before .pre .2) Schemas _ _ _ _ refl (c .schema-width .ensures) refl (c .before .table-count .ensures) (headed-is _ _ _ (head (c .before .before)) .tables)
 
 returns-2 : tie.Need-returns-2
-returns-2 c = laid-2 _ _ _ (head (c .before .before .before .before)) (sym (told-1 (c .before)) ∙ not-true _ (c .if2 .taken))
+returns-2 c = laid-2 _ _ _ (head (c .before .before .before .before)) (was-false (told-1 (c .before)) (c .if2 .taken))
 
 row-count-requires : tie.Need-row-count-requires
 row-count-requires c κs =
@@ -62,7 +61,7 @@ is-spare-requires-2 : tie.Need-is-spare-requires-2
 is-spare-requires-2 c κs = area-asked _ _ _ (c .before .before .before .before .before .before .before .before .before .before .pre .2) Rows _ _ _ _ (c .before .rows-at .ensures) (c .row-width .ensures) refl (c .before .before .row-count .ensures) (headed-is _ _ _ (head (c .before .before .before .before .before .before .before)) .rows)
 
 returns-3 : tie.Need-returns-3
-returns-3 c = laid-3 _ _ _ (head (c .before .before .before .before .before .before .before .before .before)) (sym (told-1 (c .before .before .before .before .before .before)) ∙ not-false _ (c .before .before .before .before .before .if2 .left)) (sym (told-2 (c .before)) ∙ not-true _ (c .if3 .taken))
+returns-3 c = laid-3 _ _ _ (head (c .before .before .before .before .before .before .before .before .before)) (was-true (told-1 (c .before .before .before .before .before .before)) (c .before .before .before .before .before .if2 .left)) (was-false (told-2 (c .before)) (c .if3 .taken))
 
 entry-count-requires : tie.Need-entry-count-requires
 entry-count-requires c κs =
@@ -85,7 +84,7 @@ is-spare-requires-3 : tie.Need-is-spare-requires-3
 is-spare-requires-3 c κs = area-asked _ _ _ (c .before .before .before .before .before .before .before .before .before .before .before .before .before .before .before .before .pre .2) Entries _ _ _ _ (c .before .before .entries-at .ensures) (c .before .entry-width .ensures) refl (c .before .before .before .entry-count .ensures) (headed-is _ _ _ (head (c .before .before .before .before .before .before .before .before .before .before .before .before .before)) .entries)
 
 returns-4 : tie.Need-returns-4
-returns-4 c = laid-4 _ _ _ (head (c .before .before .before .before .before .before .before .before .before .before .before .before .before .before)) (sym (told-1 (c .before .before .before .before .before .before .before .before .before .before .before)) ∙ not-false _ (c .before .before .before .before .before .before .before .before .before .before .if2 .left)) (sym (told-2 (c .before .before .before .before .before .before)) ∙ not-false _ (c .before .before .before .before .before .if3 .left)) _ (area-told _ _ _ (c .before .before .before .before .before .before .before .before .before .before .before .before .before .before .before .before .before .pre .2) Entries _ _ _ _ (c .before .before .before .entries-at .ensures) (c .before .before .entry-width .ensures) refl (c .before .before .before .before .entry-count .ensures) _ (c .is-spare3 .ensures))
+returns-4 c = laid-4 _ _ _ (head (c .before .before .before .before .before .before .before .before .before .before .before .before .before .before)) (was-true (told-1 (c .before .before .before .before .before .before .before .before .before .before .before)) (c .before .before .before .before .before .before .before .before .before .before .if2 .left)) (was-true (told-2 (c .before .before .before .before .before .before)) (c .before .before .before .before .before .if3 .left)) _ (area-told _ _ _ (c .before .before .before .before .before .before .before .before .before .before .before .before .before .before .before .before .before .pre .2) Entries _ _ _ _ (c .before .before .before .entries-at .ensures) (c .before .before .entry-width .ensures) refl (c .before .before .before .before .entry-count .ensures) _ (c .is-spare3 .ensures))
 
 pub is-laid-out-spec : {M : Type 1} → statement M
 is-laid-out-spec =

@@ -8,8 +8,8 @@ use Rattle.rules.specs.Sound.{held}
 use Rattle.laid.specs.Column.{columnOf}
 use Rattle.sound.specs.Tested.{cellsIn}
 use Rattle.laid.proofs.Columns.{count-byte, columns-few, record-least}
-use Rattle.sound.proofs.Walks.{Cells}
-use Rattle.sound.proofs.Rowing.{row-cell-fits, row-stop, row-next, row-end}
+use Rattle.sound.proofs.Walks.{Cells, CellTurned, fewer-left, byte-fits, next-fits}
+use Rattle.sound.proofs.Rowing.{row-cell-fits, row-turn, row-end}
 use Rattle.sound.proofs.reference_test.are_held.Statement.{statement}
 use Rattle.sound.proofs.reference_test.are_held.Tie as tie
 
@@ -35,7 +35,7 @@ shared-slice-read-count c =
     omega (arith, record-least (a .p) (a .rec .now) (c .before .before .before .before .pre .1))
 
 cast-count : tie.Need-cast-count Inv-loop μ-loop
-cast-count c = omega (arith, c .shared-slice-known4 .given 26)
+cast-count c = byte-fits (c .shared-slice-known4 .given 26)
 
 loop-holds : tie.Need-loop-holds Inv-loop μ-loop
 loop-holds c = (refl, refl)
@@ -52,21 +52,24 @@ cell-at-requires c κs =
 is-held-requires : tie.Need-is-held-requires Inv-loop μ-loop
 is-held-requires c κs = (c .before .before .before .before .before .before .before .before .pre .0, c .before .read-column .ensures .proper, c .cell-at .ensures .1)
 
+turn : (c : tie.After-is-held Inv-loop μ-loop) →
+    let a = c .before .before .before .before .before .before .before .before .before .args in
+    CellTurned (λ j x v. held ((parse (a .p) (a .places) (a .s .now)) .rows) (x .reference) v) ((readTable (a .p) (a .rec .now)) .columns) (cellsIn (length ((readTable (a .p) (a .rec .now)) .columns)) (a .row .now)) (c .before .before .before .before .loop .i) (c .is-held .result)
+turn c =
+    let a = c .before .before .before .before .before .before .before .before .before .args in
+    row-turn (a .p) (a .rec .now) (a .row .now) (λ j x v. held ((parse (a .p) (a .places) (a .s .now)) .rows) (x .reference) v) (c .before .before .before .before .before .before .before .before .before .pre .1) (c .before .before .before .before .loop .i) (inner (c .before .before .before)) (c .before .before .before .before .loop .inv .1) (columnOf (c .before .before .read-column .result)) (c .before .before .read-column .ensures .is) _ (c .before .cell-at .ensures .0) _ (c .is-held .ensures)
+
 returns : tie.Need-returns Inv-loop μ-loop
-returns c =
-    let a = c .before .before .before .before .before .before .before .before .before .before .args in
-    row-stop (a .p) (a .rec .now) (a .row .now) (λ j x v. held ((parse (a .p) (a .places) (a .s .now)) .rows) (x .reference) v) (c .before .before .before .before .before .before .before .before .before .before .pre .1) (c .before .before .before .before .before .loop .i) (inner (c .before .before .before .before)) (c .before .before .before .before .before .loop .inv .1) (columnOf (c .before .before .before .read-column .result)) (c .before .before .before .read-column .ensures .is) _ (c .before .before .cell-at .ensures .0) _ (c .before .is-held .ensures) (c .if1 .taken)
+returns c = turn (c .before) .0 (c .if1 .taken)
 
 add-i : tie.Need-add-i Inv-loop μ-loop
-add-i c = omega (arith, inner (c .before .before .before .before), c .before .before .before .before .before .before .shared-slice-known4 .given 26)
+add-i c = next-fits _ _ (inner (c .before .before .before .before)) (byte-fits (c .before .before .before .before .before .before .shared-slice-known4 .given 26) .fits)
 
 loop-less : tie.Need-loop-less Inv-loop μ-loop
-loop-less c = omega arith
+loop-less c = fewer-left _ _ (c .before .before .before .before .loop-test .taken)
 
 loop-again : tie.Need-loop-again Inv-loop μ-loop
-loop-again c =
-    let a = c .before .before .before .before .before .before .before .before .before .before .args in
-    (c .before .before .before .before .before .loop .inv .0, row-next (a .p) (a .rec .now) (a .row .now) (λ j x v. held ((parse (a .p) (a .places) (a .s .now)) .rows) (x .reference) v) (c .before .before .before .before .before .before .before .before .before .before .pre .1) (c .before .before .before .before .before .loop .i) (inner (c .before .before .before .before)) (c .before .before .before .before .before .loop .inv .1) (columnOf (c .before .before .before .read-column .result)) (c .before .before .before .read-column .ensures .is) _ (c .before .before .cell-at .ensures .0) _ (c .before .is-held .ensures) (c .if1 .left))
+loop-again c = (c .before .before .before .before .before .loop .inv .0, turn (c .before) .1 (c .if1 .left))
 
 returns-2 : tie.Need-returns-2 Inv-loop μ-loop
 returns-2 c =

@@ -1,18 +1,17 @@
 -- `sound::reference_test::are_linked` meets its contract. Assumes nothing.
-use mathlib.Core.Path.{_≡_, refl, _∙_}
+use mathlib.Core.Path.{refl}
 use Prim.Native.Nat.{_-_}
-use native.Mathlib.Omega.{arith}
-use lib.ListN.{drop}
-use Rattle.rules.specs.Layout.{Rows, lists, parse, readRow}
-use Rattle.rules.specs.Sound.{every, referencesHeld}
+use Rattle.rules.specs.Layout.{Rows, parse, readRow}
+use Rattle.rules.specs.Sound.{referencesHeld}
 use Rattle.laid.proofs.Inside.{inside-header}
-use Rattle.sound.proofs.AreaWalks.{below, wide-of, walk-stop, walk-next, walk-end}
-use Rattle.sound.proofs.Rowing.{rows-every-is}
+use Rattle.sound.proofs.AreaWalks.{below, wide-of, walk-turn, walk-end}
+use Rattle.sound.proofs.Rowing.{rows-read}
+use Rattle.sound.proofs.Walks.{Asked, Turned, fewer-left, next-fits}
 use Rattle.sound.proofs.reference_test.are_linked.Statement.{statement}
 use Rattle.sound.proofs.reference_test.are_linked.Tie as tie
 
 abbrev Inv-loop : tie.InvT-loop
-Inv-loop s p places count i₀ i = every (λ r. referencesHeld ((parse p places s) .tables) ((parse p places s) .rows) (readRow p ((parse p places s) .tables) r)) ((lists p places s) .rows) ≡ every (λ r. referencesHeld ((parse p places s) .tables) ((parse p places s) .rows) (readRow p ((parse p places s) .tables) r)) (drop i ((lists p places s) .rows))
+Inv-loop s p places count i₀ i = Asked (referencesHeld ((parse p places s) .tables) ((parse p places s) .rows)) ((parse p places s) .rows) i
 
 abbrev μ-loop : tie.MeasureT-loop
 μ-loop s p places count i₀ i = count - i
@@ -36,26 +35,29 @@ is-linked-requires c κs =
     let q = c .before .before .before .before .before .pre in
     (q, wide-of (a .p) (a .places) (a .s .now) Rows _ (c .before .before .before .row-count .ensures) (q .schemed .catalog .inside) _ _ (c .before .loop-test .taken) (c .row-record .ensures))
 
+turn : (c : tie.After-is-linked Inv-loop μ-loop) →
+    let a = c .before .before .before .before .before .before .args in
+    Turned (referencesHeld ((parse (a .p) (a .places) (a .s .now)) .tables) ((parse (a .p) (a .places) (a .s .now)) .rows)) ((parse (a .p) (a .places) (a .s .now)) .rows) (c .before .before .before .loop .i) (c .is-linked .result)
+turn c =
+    let a = c .before .before .before .before .before .before .args in
+    walk-turn (a .p) (a .places) (a .s .now) Rows _ (c .before .before .before .before .row-count .ensures) (readRow (a .p) ((parse (a .p) (a .places) (a .s .now)) .tables)) ((parse (a .p) (a .places) (a .s .now)) .rows) (rows-read (a .p) (a .places) (a .s .now)) (referencesHeld ((parse (a .p) (a .places) (a .s .now)) .tables) ((parse (a .p) (a .places) (a .s .now)) .rows)) _ _ _ (c .before .before .before .loop .inv) (c .before .before .loop-test .taken) (c .before .row-record .ensures) (c .is-linked .ensures)
+
 returns : tie.Need-returns Inv-loop μ-loop
-returns c =
-    let a = c .before .before .before .before .before .before .before .args in
-    walk-stop (a .p) (a .places) (a .s .now) Rows _ (c .before .before .before .before .before .row-count .ensures) (λ r. referencesHeld ((parse (a .p) (a .places) (a .s .now)) .tables) ((parse (a .p) (a .places) (a .s .now)) .rows) (readRow (a .p) ((parse (a .p) (a .places) (a .s .now)) .tables) r)) _ (c .before .before .before .before .loop .inv) _ _ (c .before .before .before .loop-test .taken) (c .before .before .row-record .ensures) (c .before .is-linked .ensures) (c .if1 .taken) ∙ rows-every-is (a .p) (a .places) (a .s .now) (referencesHeld ((parse (a .p) (a .places) (a .s .now)) .tables) ((parse (a .p) (a .places) (a .s .now)) .rows))
+returns c = turn (c .before) .0 (c .if1 .taken)
 
 add-i : tie.Need-add-i Inv-loop μ-loop
-add-i c = omega arith
+add-i c = next-fits _ _ (c .before .before .before .loop-test .taken) (c .before .before .before .before .before .row-count .ok)
 
 loop-less : tie.Need-loop-less Inv-loop μ-loop
-loop-less c = omega arith
+loop-less c = fewer-left _ _ (c .before .before .before .loop-test .taken)
 
 loop-again : tie.Need-loop-again Inv-loop μ-loop
-loop-again c =
-    let a = c .before .before .before .before .before .before .before .args in
-    walk-next (a .p) (a .places) (a .s .now) Rows _ (c .before .before .before .before .before .row-count .ensures) (λ r. referencesHeld ((parse (a .p) (a .places) (a .s .now)) .tables) ((parse (a .p) (a .places) (a .s .now)) .rows) (readRow (a .p) ((parse (a .p) (a .places) (a .s .now)) .tables) r)) _ (c .before .before .before .before .loop .inv) _ _ (c .before .before .before .loop-test .taken) (c .before .before .row-record .ensures) (c .before .is-linked .ensures) (c .if1 .left)
+loop-again c = turn (c .before) .1 (c .if1 .left)
 
 returns-2 : tie.Need-returns-2 Inv-loop μ-loop
 returns-2 c =
     let a = c .before .before .before .before .args in
-    walk-end (a .p) (a .places) (a .s .now) Rows _ (c .before .before .row-count .ensures) (λ r. referencesHeld ((parse (a .p) (a .places) (a .s .now)) .tables) ((parse (a .p) (a .places) (a .s .now)) .rows) (readRow (a .p) ((parse (a .p) (a .places) (a .s .now)) .tables) r)) _ (c .before .loop .inv) (c .loop-test .left) ∙ rows-every-is (a .p) (a .places) (a .s .now) (referencesHeld ((parse (a .p) (a .places) (a .s .now)) .tables) ((parse (a .p) (a .places) (a .s .now)) .rows))
+    walk-end (a .p) (a .places) (a .s .now) Rows _ (c .before .before .row-count .ensures) (readRow (a .p) ((parse (a .p) (a .places) (a .s .now)) .tables)) ((parse (a .p) (a .places) (a .s .now)) .rows) (rows-read (a .p) (a .places) (a .s .now)) (referencesHeld ((parse (a .p) (a .places) (a .s .now)) .tables) ((parse (a .p) (a .places) (a .s .now)) .rows)) _ (c .before .loop .inv) (c .loop-test .left)
 
 pub are-linked-spec : {M : Type 1} → statement M
 are-linked-spec =

@@ -1,5 +1,5 @@
 -- `sound::reference_test::has_row` meets its contract. Assumes nothing.
-use mathlib.Core.Path.{refl, sym, ap, _∙_}
+use mathlib.Core.Path.{refl, sym, _∙_}
 use Prim.Native.Nat.{_≤_}
 use native.Mathlib.Omega.{arith}
 use lib.ListN.{length}
@@ -7,12 +7,11 @@ use Rattle.values.specs.Meaning.{textBytes, meaning}
 use Rattle.rules.specs.Profile.{rowWidth}
 use Rattle.rules.specs.Layout.{Rows}
 use Rattle.rules.proofs.Widths.{area-within}
-use Rattle.laid.specs.Catalog.{foundAt}
 use Rattle.sound.specs.Tested.{Here}
 use Rattle.laid.proofs.Inside.{inside-header}
-use Rattle.laid.proofs.Searching.{found-within, same-is, not-same}
+use Rattle.laid.proofs.Searching.{same-is, not-same}
 use Rattle.sound.proofs.AreaWalks.{below, wide-of}
-use Rattle.sound.proofs.Rowing.{here-of}
+use Rattle.sound.proofs.Rowing.{found-none, found-below, found-here}
 use Rattle.sound.proofs.Placed.{has-nowhere, rows-searched, row-past, row-here}
 use borrow.Author.Needs.{needs}
 use Rattle.sound.proofs.reference_test.has_row.Statement.{statement}
@@ -23,7 +22,7 @@ found : (c : tie.After-table-record) →
     Here (a .p) (a .places) (a .s .now) (textBytes (a .name)) (c .table-record .result .now)
 found c =
     let a = c .before .before .before .before .before .before .args in
-    here-of (a .p) (a .places) (a .s .now) (c .before .before .before .before .before .before .pre .0 .schemed) (textBytes (a .name)) (c .before .before .t .given .0 .0) _ (ap foundAt (sym (c .before .before .t .given .1)) ∙ c .before .before .before .before .get-table .ensures) (c .table-record .ensures)
+    found-here (a .p) (a .places) (a .s .now) (textBytes (a .name)) (c .before .before .before .before .get-table .result) (c .before .before .before .before .get-table .ensures) (c .before .before .t .given .0 .0) (c .before .before .t .given .1) (c .before .before .before .before .before .before .pre .0 .schemed) _ (c .table-record .ensures) _ refl
 
 start : (c : tie.After-rows-at) → c .rows-at .result ≤ length (c .before .before .before .before .before .before .before .before .before .before .args .s .now)
 start c =
@@ -46,12 +45,12 @@ enum-told c = search needs
 returns : tie.Need-returns
 returns c =
     let a = c .before .before .before .before .args in
-    has-nowhere (a .p) (a .places) (a .s .now) (c .before .before .before .before .pre .0) (textBytes (a .name)) (meaning (a .key)) (ap foundAt (sym (c .enum-told .given .1)) ∙ c .before .before .get-table .ensures)
+    has-nowhere (a .p) (a .places) (a .s .now) (c .before .before .before .before .pre .0) (textBytes (a .name)) (meaning (a .key)) (found-none (a .p) (a .places) (a .s .now) (textBytes (a .name)) (c .before .before .get-table .result) (c .before .before .get-table .ensures) _ refl (c .enum-told .given .1))
 
 table-record-requires : tie.Need-table-record-requires
 table-record-requires c κs =
     let a = c .before .before .before .before .before .args in
-    (c .before .before .before .before .before .pre .0 .schemed .catalog .inside, found-within (a .p) (a .places) (a .s .now) (textBytes (a .name)) (c .before .t .given .0 .0) (ap foundAt (sym (c .before .t .given .1)) ∙ c .before .before .before .get-table .ensures))
+    (c .before .before .before .before .before .pre .0 .schemed .catalog .inside, found-below (a .p) (a .places) (a .s .now) (textBytes (a .name)) (c .before .before .before .get-table .result) (c .before .before .before .get-table .ensures) (c .before .t .given .0 .0) (c .before .t .given .1))
 
 key-at-requires : tie.Need-key-at-requires
 key-at-requires c κs = (found c .bytes, found c .keyed)

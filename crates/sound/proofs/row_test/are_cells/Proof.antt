@@ -1,19 +1,19 @@
 -- `sound::row_test::are_cells` meets its contract. Assumes nothing.
-use mathlib.Core.Path.{_≡_, refl}
+use mathlib.Core.Path.{refl}
 use Prim.Native.Nat.{_-_, _+_, _*_, _≤_}
 use native.Mathlib.Omega.{arith}
 use lib.ListN.{length, drop}
 use Rattle.values.specs.Cell.{isCell}
 use Rattle.values.specs.Records.{records}
-use Rattle.rules.specs.Sound.{every}
 use Rattle.sound.proofs.Headers.{area-long}
 use Rattle.sound.proofs.Rowing.{row-cell-fits}
-use Rattle.sound.proofs.AreaWalks.{part-stop, part-next, part-end}
+use Rattle.sound.proofs.AreaWalks.{part-turn, part-end}
+use Rattle.sound.proofs.Walks.{Asked, Turned, fewer-left, next-fits}
 use Rattle.sound.proofs.row_test.are_cells.Statement.{statement}
 use Rattle.sound.proofs.row_test.are_cells.Tie as tie
 
 abbrev Inv-loop : tie.InvT-loop
-Inv-loop row count i₀ i = every isCell (records 26 count (drop 25 row)) ≡ every isCell (drop i (records 26 count (drop 25 row)))
+Inv-loop row count i₀ i = Asked isCell (records 26 count (drop 25 row)) i
 
 abbrev μ-loop : tie.MeasureT-loop
 μ-loop row count i₀ i = count - i
@@ -48,21 +48,24 @@ part-is-cell-end c = fits c
 is-cell-requires : tie.Need-is-cell-requires Inv-loop μ-loop
 is-cell-requires c κs = area-long (c .before .before .before .before .args .row .now) (25 + c .before .before .loop .i * 26) 26 (fits (c .before))
 
+turn : (c : tie.After-is-cell Inv-loop μ-loop) →
+    let a = c .before .before .before .before .before .args in
+    Turned isCell (records 26 (a .count) (drop 25 (a .row .now))) (c .before .before .before .loop .i) (c .is-cell .result)
+turn c =
+    let a = c .before .before .before .before .before .args in
+    part-turn (a .row .now) 25 26 (a .count) isCell 26 (c .before .before .before .loop .i) _ refl (c .before .before .before .loop .inv) (c .before .before .loop-test .taken) (c .is-cell .ensures)
+
 returns : tie.Need-returns Inv-loop μ-loop
-returns c =
-    let a = c .before .before .before .before .before .before .args in
-    part-stop (a .row .now) 25 26 (a .count) isCell 26 (c .before .before .before .before .loop .i) _ refl (c .before .before .before .before .loop .inv) (c .before .before .before .loop-test .taken) (c .before .is-cell .ensures) (c .if1 .taken)
+returns c = turn (c .before) .0 (c .if1 .taken)
 
 add-i : tie.Need-add-i Inv-loop μ-loop
-add-i c = omega arith
+add-i c = next-fits _ _ (c .before .before .before .loop-test .taken) (c .before .before .before .before .before .before .fits .count .fits)
 
 loop-less : tie.Need-loop-less Inv-loop μ-loop
-loop-less c = omega arith
+loop-less c = fewer-left _ _ (c .before .before .before .loop-test .taken)
 
 loop-again : tie.Need-loop-again Inv-loop μ-loop
-loop-again c =
-    let a = c .before .before .before .before .before .before .args in
-    part-next (a .row .now) 25 26 (a .count) isCell 26 (c .before .before .before .before .loop .i) _ refl (c .before .before .before .before .loop .inv) (c .before .before .before .loop-test .taken) (c .before .is-cell .ensures) (c .if1 .left)
+loop-again c = turn (c .before) .1 (c .if1 .left)
 
 returns-2 : tie.Need-returns-2 Inv-loop μ-loop
 returns-2 c =

@@ -4,6 +4,7 @@ use Prim.Native.Nat.{_+_, _*_, _≤_}
 use native.Mathlib.Omega.{arith}
 use lib.ListN.{length, getD}
 use Rattle.laid.proofs.Columns.{count-byte, columns-few, record-least}
+use Rattle.sound.proofs.Walks.{byte-fits}
 use Rattle.sound.proofs.Rowing.{row-cells-fit, fits-1, fits-2, fits-3, fits-4}
 use borrow.Author.Needs.{needs}
 use Rattle.sound.proofs.row_test.fits_table.Statement.{statement}
@@ -30,7 +31,7 @@ shared-slice-read-count c =
     omega (arith, record-least (a .p) (a .rec .now) (c .before .before .before .pre .0))
 
 cast-count : tie.Need-cast-count
-cast-count c = omega (arith, c .shared-slice-known3 .given 26)
+cast-count c = byte-fits (c .shared-slice-known3 .given 26)
 
 are-cells-requires : tie.Need-are-cells-requires
 are-cells-requires c κs =

@@ -1,5 +1,5 @@
 -- `sound::row_test::is_row` meets its contract. Assumes nothing.
-use mathlib.Core.Path.{refl, sym, ap, _∙_, subst}
+use mathlib.Core.Path.{refl, sym, subst}
 use mathlib.Core.List.{[]}
 use Prim.Native.Nat.{_≤_}
 use native.Mathlib.Omega.{arith}
@@ -7,10 +7,8 @@ use lib.ListN.{length, getD}
 use Rattle.values.specs.Meaning.{textBytes}
 use Rattle.rules.specs.Profile.{rowWidth}
 use Rattle.rules.specs.Layout.{lists}
-use Rattle.laid.specs.Catalog.{foundAt}
 use Rattle.sound.specs.Tested.{Here}
-use Rattle.laid.proofs.Searching.{found-within}
-use Rattle.sound.proofs.Rowing.{here-of, row-nowhere, row-misnamed, row-fits}
+use Rattle.sound.proofs.Rowing.{found-none, found-below, found-here, row-nowhere, row-misnamed, row-fits}
 use borrow.Author.Needs.{needs}
 use Rattle.sound.proofs.row_test.is_row.Statement.{statement}
 use Rattle.sound.proofs.row_test.is_row.Tie as tie
@@ -24,7 +22,7 @@ found : (c : tie.After-known-told) →
     Here (a .p) (a .places) (a .s .now) (textBytes (c .before .before .before .before .read-name .result)) (getD ((lists (a .p) (a .places) (a .s .now)) .schemas) (c .before .i .given .0 .0) [])
 found c =
     let a = c .before .before .before .before .before .before .before .args in
-    here-of (a .p) (a .places) (a .s .now) (c .before .before .before .before .before .before .before .pre .0) (textBytes (c .before .before .before .before .read-name .result)) (c .before .i .given .0 .0) _ (ap foundAt (sym (c .before .i .given .1)) ∙ c .before .before .before .get-table .ensures) refl
+    found-here (a .p) (a .places) (a .s .now) (textBytes (c .before .before .before .before .read-name .result)) (c .before .before .before .get-table .result) (c .before .before .before .get-table .ensures) (c .before .i .given .0 .0) (c .before .i .given .1) (c .before .before .before .before .before .before .before .pre .0) _ refl _ refl
 
 read-name-requires : tie.Need-read-name-requires
 read-name-requires c κs = long c
@@ -42,7 +40,7 @@ returns : tie.Need-returns
 returns c =
     let a = c .before .before .before .before .before .before .args in
     let q = c .before .before .before .before .before .before .pre in
-    row-nowhere (a .p) (a .places) (a .s .now) (q .0) (a .row .now) (λ i. omega (arith, c .before .before .before .before .shared-slice-known2 .given i)) (q .1) _ (c .before .before .before .read-name .ensures .0) (ap foundAt (sym (c .enum-told .given .1)) ∙ c .before .before .get-table .ensures)
+    row-nowhere (a .p) (a .places) (a .s .now) (q .0) (a .row .now) (λ i. c .before .before .before .before .shared-slice-known2 .given i .fits) (q .1) _ (c .before .before .before .read-name .ensures .0) (found-none (a .p) (a .places) (a .s .now) (textBytes (c .before .before .before .read-name .result)) (c .before .before .get-table .result) (c .before .before .get-table .ensures) _ (c .before .before .before .read-name .ensures .0) (c .enum-told .given .1))
 
 sub-is-name-cell : tie.Need-sub-is-name-cell
 sub-is-name-cell c = search needs
@@ -60,12 +58,12 @@ returns-2 : tie.Need-returns-2
 returns-2 c =
     let a = c .before .before .before .before .before .before .before .before .before .before .args in
     let q = c .before .before .before .before .before .before .before .before .before .before .pre in
-    row-misnamed (a .p) (a .places) (a .s .now) (q .0) (a .row .now) (λ i. omega (arith, c .before .before .before .before .before .before .before .before .shared-slice-known2 .given i)) (q .1) _ (c .before .before .before .before .before .before .before .read-name .ensures .0) _ (found (c .before .before .before)) _ (c .before .is-name-cell .ensures) (c .if1 .taken)
+    row-misnamed (a .p) (a .places) (a .s .now) (q .0) (a .row .now) (λ i. c .before .before .before .before .before .before .before .before .shared-slice-known2 .given i .fits) (q .1) _ (c .before .before .before .before .before .before .before .read-name .ensures .0) _ (found (c .before .before .before)) _ (c .before .is-name-cell .ensures) (c .if1 .taken)
 
 table-record-requires : tie.Need-table-record-requires
 table-record-requires c κs =
     let a = c .before .before .before .before .before .before .before .before .before .before .args in
-    (c .before .before .before .before .before .before .before .before .before .before .pre .0 .catalog .inside, found-within (a .p) (a .places) (a .s .now) (textBytes (c .before .before .before .before .before .before .before .read-name .result)) (c .before .before .before .before .i .given .0 .0) (ap foundAt (sym (c .before .before .before .before .i .given .1)) ∙ c .before .before .before .before .before .before .get-table .ensures))
+    (c .before .before .before .before .before .before .before .before .before .before .pre .0 .catalog .inside, found-below (a .p) (a .places) (a .s .now) (textBytes (c .before .before .before .before .before .before .before .read-name .result)) (c .before .before .before .before .before .before .get-table .result) (c .before .before .before .before .before .before .get-table .ensures) (c .before .before .before .before .i .given .0 .0) (c .before .before .before .before .i .given .1))
 
 fits-table-requires : tie.Need-fits-table-requires
 fits-table-requires c κs = rw (c .table-record .ensures) (found (c .before .before .before .before) .bytes, found (c .before .before .before .before) .keyed, c .before .before .before .before .before .before .before .before .before .before .before .pre .1)
@@ -74,7 +72,7 @@ returns-3 : tie.Need-returns-3
 returns-3 c =
     let a = c .before .before .before .before .before .before .before .before .before .before .before .before .args in
     let q = c .before .before .before .before .before .before .before .before .before .before .before .before .pre in
-    row-fits (a .p) (a .places) (a .s .now) (q .0) (a .row .now) (λ i. omega (arith, c .before .before .before .before .before .before .before .before .before .before .shared-slice-known2 .given i)) (q .1) _ (c .before .before .before .before .before .before .before .before .before .read-name .ensures .0) (c .before .table-record .result .now) (subst (Here (a .p) (a .places) (a .s .now) (textBytes (c .before .before .before .before .before .before .before .before .before .read-name .result))) (sym (c .before .table-record .ensures)) (found (c .before .before .before .before .before))) _ (c .before .before .before .is-name-cell .ensures) (c .before .before .if1 .left) _ (c .fits-table .ensures)
+    row-fits (a .p) (a .places) (a .s .now) (q .0) (a .row .now) (λ i. c .before .before .before .before .before .before .before .before .before .before .shared-slice-known2 .given i .fits) (q .1) _ (c .before .before .before .before .before .before .before .before .before .read-name .ensures .0) (c .before .table-record .result .now) (subst (Here (a .p) (a .places) (a .s .now) (textBytes (c .before .before .before .before .before .before .before .before .before .read-name .result))) (sym (c .before .table-record .ensures)) (found (c .before .before .before .before .before))) _ (c .before .before .before .is-name-cell .ensures) (c .before .before .if1 .left) _ (c .fits-table .ensures)
 
 pub is-row-spec : {M : Type 1} → statement M
 is-row-spec =

@@ -1,16 +1,14 @@
 -- `sound::row_test::is_row_before` meets its contract. Assumes nothing.
-use mathlib.Core.Path.{sym, ap, _∙_}
+use mathlib.Core.Path.{refl}
 use Prim.Native.Nat.{_≤_}
 use native.Mathlib.Omega.{arith}
 use lib.ListN.{length}
 use Rattle.values.specs.Meaning.{textBytes}
 use Rattle.values.proofs.Answers.{not-less}
 use Rattle.rules.specs.Profile.{rowWidth}
-use Rattle.laid.specs.Catalog.{foundAt}
 use Rattle.sound.specs.Tested.{Here}
-use Rattle.laid.proofs.Searching.{found-within}
 use Rattle.laid.proofs.Searching.{less-is, less-not}
-use Rattle.sound.proofs.Rowing.{here-of, first-nowhere, first-order}
+use Rattle.sound.proofs.Rowing.{found-none, found-below, found-here, first-nowhere, first-order}
 use borrow.Author.Needs.{needs}
 use Rattle.sound.proofs.row_test.is_row_before.Statement.{statement}
 use Rattle.sound.proofs.row_test.is_row_before.Tie as tie
@@ -28,7 +26,7 @@ found : (c : tie.After-table-record) →
     Here (a .p) (a .places) (a .s .now) (textBytes (c .before .before .before .before .before .read-name .result)) (c .table-record .result .now)
 found c =
     let a = c .before .before .before .before .before .before .before .before .before .args in
-    here-of (a .p) (a .places) (a .s .now) (c .before .before .before .before .before .before .before .before .before .pre .0) (textBytes (c .before .before .before .before .before .read-name .result)) (c .before .before .i .given .0 .0) _ (ap foundAt (sym (c .before .before .i .given .1)) ∙ c .before .before .before .before .get-table .ensures) (c .table-record .ensures)
+    found-here (a .p) (a .places) (a .s .now) (textBytes (c .before .before .before .before .before .read-name .result)) (c .before .before .before .before .get-table .result) (c .before .before .before .before .get-table .ensures) (c .before .before .i .given .0 .0) (c .before .before .i .given .1) (c .before .before .before .before .before .before .before .before .before .pre .0) _ (c .table-record .ensures) _ refl
 
 read-name-requires : tie.Need-read-name-requires
 read-name-requires c κs = long c
@@ -46,12 +44,12 @@ returns : tie.Need-returns
 returns c =
     let a = c .before .before .before .before .before .before .before .args in
     let q = c .before .before .before .before .before .before .before .pre in
-    first-nowhere (a .p) (a .places) (a .s .now) (q .0) (a .a .now) (a .b .now) _ (c .before .before .before .read-name .ensures .0) (λ i. omega (arith, c .before .before .before .before .shared-slice-known3 .given i)) (q .2) (q .3) (ap foundAt (sym (c .enum-told .given .1)) ∙ c .before .before .get-table .ensures)
+    first-nowhere (a .p) (a .places) (a .s .now) (q .0) (a .a .now) (a .b .now) _ (c .before .before .before .read-name .ensures .0) (λ i. c .before .before .before .before .shared-slice-known3 .given i .fits) (q .2) (q .3) (found-none (a .p) (a .places) (a .s .now) (textBytes (c .before .before .before .read-name .result)) (c .before .before .get-table .result) (c .before .before .get-table .ensures) _ (c .before .before .before .read-name .ensures .0) (c .enum-told .given .1))
 
 table-record-requires : tie.Need-table-record-requires
 table-record-requires c κs =
     let a = c .before .before .before .before .before .before .before .before .args in
-    (c .before .before .before .before .before .before .before .before .pre .0 .catalog .inside, found-within (a .p) (a .places) (a .s .now) (textBytes (c .before .before .before .before .read-name .result)) (c .before .i .given .0 .0) (ap foundAt (sym (c .before .i .given .1)) ∙ c .before .before .before .get-table .ensures))
+    (c .before .before .before .before .before .before .before .before .pre .0 .catalog .inside, found-below (a .p) (a .places) (a .s .now) (textBytes (c .before .before .before .before .read-name .result)) (c .before .before .before .get-table .result) (c .before .before .before .get-table .ensures) (c .before .i .given .0 .0) (c .before .i .given .1))
 
 key-at-requires : tie.Need-key-at-requires
 key-at-requires c κs = (found c .bytes, found c .keyed)

@@ -1,22 +1,21 @@
 -- `sound::schema_test::are_faultless` meets its contract. Assumes nothing.
-use mathlib.Core.Path.{_≡_, refl, sym, _∙_, subst}
+use mathlib.Core.Path.{refl, sym, subst}
 use Prim.Native.Nat.{_-_}
-use native.Mathlib.Omega.{arith}
-use lib.ListN.{drop}
-use Rattle.rules.specs.Layout.{Schemas, lists, parse, readTable}
-use Rattle.rules.specs.Sound.{every}
+use Rattle.rules.specs.Layout.{Schemas, parse, readTable}
+use Rattle.rules.specs.Sound.{faultless}
 use Rattle.laid.proofs.Inside.{inside-header}
-use Rattle.sound.proofs.AreaWalks.{below, walk-stop, walk-next, walk-end}
+use Rattle.sound.proofs.AreaWalks.{below, walk-turn, walk-end}
 use Rattle.values.specs.Basic.{isNone}
 use Rattle.rules.specs.Schema.{schemaFault}
 use Rattle.laid.specs.Catalog.{TableBytes}
 use Rattle.laid.proofs.Searching.{table-bytes-at}
-use Rattle.sound.proofs.Rowing.{faultless-walk}
+use Rattle.sound.proofs.Walks.{Asked, Turned, fewer-left, next-fits}
+use Rattle.laid.proofs.Searching.{tables-read}
 use Rattle.sound.proofs.schema_test.are_faultless.Statement.{statement}
 use Rattle.sound.proofs.schema_test.are_faultless.Tie as tie
 
 abbrev Inv-loop : tie.InvT-loop
-Inv-loop s p places count i₀ i = every (λ r. isNone (schemaFault ((parse p places s) .tables) (readTable p r))) ((lists p places s) .schemas) ≡ every (λ r. isNone (schemaFault ((parse p places s) .tables) (readTable p r))) (drop i ((lists p places s) .schemas))
+Inv-loop s p places count i₀ i = Asked (λ t. isNone (schemaFault ((parse p places s) .tables) t)) ((parse p places s) .tables) i
 
 abbrev μ-loop : tie.MeasureT-loop
 μ-loop s p places count i₀ i = count - i
@@ -40,26 +39,31 @@ is-faultless-requires c κs =
     let q = c .before .before .before .before .before .pre in
     (q, subst (TableBytes (a .p)) (sym (c .table-record .ensures)) (table-bytes-at (a .p) (a .places) (a .s .now) _ (below (a .p) (a .places) (a .s .now) Schemas _ (c .before .before .before .table-count .ensures) _ (c .before .loop-test .taken)) (q)))
 
+turn : (c : tie.After-is-faultless Inv-loop μ-loop) →
+    let a = c .before .before .before .before .before .before .args in
+    Turned (λ t. isNone (schemaFault ((parse (a .p) (a .places) (a .s .now)) .tables) t)) ((parse (a .p) (a .places) (a .s .now)) .tables) (c .before .before .before .loop .i) (c .is-faultless .result)
+turn c =
+    let a = c .before .before .before .before .before .before .args in
+    walk-turn (a .p) (a .places) (a .s .now) Schemas _ (c .before .before .before .before .table-count .ensures) (readTable (a .p)) ((parse (a .p) (a .places) (a .s .now)) .tables) (tables-read (a .p) (a .places) (a .s .now)) (λ t. isNone (schemaFault ((parse (a .p) (a .places) (a .s .now)) .tables) t)) _ _ _ (c .before .before .before .loop .inv) (c .before .before .loop-test .taken) (c .before .table-record .ensures) (c .is-faultless .ensures)
+
 returns : tie.Need-returns Inv-loop μ-loop
-returns c =
-    let a = c .before .before .before .before .before .before .before .args in
-    walk-stop (a .p) (a .places) (a .s .now) Schemas _ (c .before .before .before .before .before .table-count .ensures) (λ r. isNone (schemaFault ((parse (a .p) (a .places) (a .s .now)) .tables) (readTable (a .p) r))) _ (c .before .before .before .before .loop .inv) _ _ (c .before .before .before .loop-test .taken) (c .before .before .table-record .ensures) (c .before .is-faultless .ensures) (c .if1 .taken) ∙ faultless-walk (a .p) (a .places) (a .s .now)
+unfolding faultless
+returns c = turn (c .before) .0 (c .if1 .taken)
 
 add-i : tie.Need-add-i Inv-loop μ-loop
-add-i c = omega arith
+add-i c = next-fits _ _ (c .before .before .before .loop-test .taken) (c .before .before .before .before .before .table-count .ok)
 
 loop-less : tie.Need-loop-less Inv-loop μ-loop
-loop-less c = omega arith
+loop-less c = fewer-left _ _ (c .before .before .before .loop-test .taken)
 
 loop-again : tie.Need-loop-again Inv-loop μ-loop
-loop-again c =
-    let a = c .before .before .before .before .before .before .before .args in
-    walk-next (a .p) (a .places) (a .s .now) Schemas _ (c .before .before .before .before .before .table-count .ensures) (λ r. isNone (schemaFault ((parse (a .p) (a .places) (a .s .now)) .tables) (readTable (a .p) r))) _ (c .before .before .before .before .loop .inv) _ _ (c .before .before .before .loop-test .taken) (c .before .before .table-record .ensures) (c .before .is-faultless .ensures) (c .if1 .left)
+loop-again c = turn (c .before) .1 (c .if1 .left)
 
 returns-2 : tie.Need-returns-2 Inv-loop μ-loop
+unfolding faultless
 returns-2 c =
     let a = c .before .before .before .before .args in
-    walk-end (a .p) (a .places) (a .s .now) Schemas _ (c .before .before .table-count .ensures) (λ r. isNone (schemaFault ((parse (a .p) (a .places) (a .s .now)) .tables) (readTable (a .p) r))) _ (c .before .loop .inv) (c .loop-test .left) ∙ faultless-walk (a .p) (a .places) (a .s .now)
+    walk-end (a .p) (a .places) (a .s .now) Schemas _ (c .before .before .table-count .ensures) (readTable (a .p)) ((parse (a .p) (a .places) (a .s .now)) .tables) (tables-read (a .p) (a .places) (a .s .now)) (λ t. isNone (schemaFault ((parse (a .p) (a .places) (a .s .now)) .tables) t)) _ (c .before .loop .inv) (c .loop-test .left)
 
 pub are-faultless-spec : {M : Type 1} → statement M
 are-faultless-spec =

@@ -1,18 +1,17 @@
 -- `sound::schema_test::are_tables` meets its contract. Assumes nothing.
-use mathlib.Core.Path.{_≡_, refl}
+use mathlib.Core.Path.{refl, sym}
+use mathlib.Core.List.{map-id}
 use Prim.Native.Nat.{_-_}
-use native.Mathlib.Omega.{arith}
-use lib.ListN.{drop}
 use Rattle.rules.specs.Layout.{Schemas, lists}
-use Rattle.rules.specs.Sound.{every}
 use Rattle.sound.specs.Tested.{isTable}
 use Rattle.laid.proofs.Inside.{inside-header}
-use Rattle.sound.proofs.AreaWalks.{below, wide-of, walk-stop, walk-next, walk-end}
+use Rattle.sound.proofs.AreaWalks.{below, wide-of, walk-turn, walk-end}
+use Rattle.sound.proofs.Walks.{Asked, Turned, fewer-left, next-fits}
 use Rattle.sound.proofs.schema_test.are_tables.Statement.{statement}
 use Rattle.sound.proofs.schema_test.are_tables.Tie as tie
 
 abbrev Inv-loop : tie.InvT-loop
-Inv-loop s p places count i₀ i = every (isTable p) ((lists p places s) .schemas) ≡ every (isTable p) (drop i ((lists p places s) .schemas))
+Inv-loop s p places count i₀ i = Asked (isTable p) ((lists p places s) .schemas) i
 
 abbrev μ-loop : tie.MeasureT-loop
 μ-loop s p places count i₀ i = count - i
@@ -36,20 +35,29 @@ is-table-requires c κs =
     let q = c .before .before .before .before .before .pre in
     (q .coded, wide-of (a .p) (a .places) (a .s .now) Schemas _ (c .before .before .before .table-count .ensures) (q) _ _ (c .before .loop-test .taken) (c .table-record .ensures))
 
+turn : (c : tie.After-is-table Inv-loop μ-loop) →
+    let a = c .before .before .before .before .before .before .args in
+    Turned (isTable (a .p)) ((lists (a .p) (a .places) (a .s .now)) .schemas) (c .before .before .before .loop .i) (c .is-table .result)
+turn c =
+    let a = c .before .before .before .before .before .before .args in
+    walk-turn (a .p) (a .places) (a .s .now) Schemas _ (c .before .before .before .before .table-count .ensures) (λ r. r) ((lists (a .p) (a .places) (a .s .now)) .schemas) (sym (map-id ((lists (a .p) (a .places) (a .s .now)) .schemas))) (isTable (a .p)) _ _ _ (c .before .before .before .loop .inv) (c .before .before .loop-test .taken) (c .before .table-record .ensures) (c .is-table .ensures)
+
 returns : tie.Need-returns Inv-loop μ-loop
-returns c = walk-stop _ _ _ Schemas _ (c .before .before .before .before .before .table-count .ensures) (isTable (c .before .before .before .before .before .before .before .args .p)) _ (c .before .before .before .before .loop .inv) _ _ (c .before .before .before .loop-test .taken) (c .before .before .table-record .ensures) (c .before .is-table .ensures) (c .if1 .taken)
+returns c = turn (c .before) .0 (c .if1 .taken)
 
 add-i : tie.Need-add-i Inv-loop μ-loop
-add-i c = omega arith
+add-i c = next-fits _ _ (c .before .before .before .loop-test .taken) (c .before .before .before .before .before .table-count .ok)
 
 loop-less : tie.Need-loop-less Inv-loop μ-loop
-loop-less c = omega arith
+loop-less c = fewer-left _ _ (c .before .before .before .loop-test .taken)
 
 loop-again : tie.Need-loop-again Inv-loop μ-loop
-loop-again c = walk-next _ _ _ Schemas _ (c .before .before .before .before .before .table-count .ensures) (isTable (c .before .before .before .before .before .before .before .args .p)) _ (c .before .before .before .before .loop .inv) _ _ (c .before .before .before .loop-test .taken) (c .before .before .table-record .ensures) (c .before .is-table .ensures) (c .if1 .left)
+loop-again c = turn (c .before) .1 (c .if1 .left)
 
 returns-2 : tie.Need-returns-2 Inv-loop μ-loop
-returns-2 c = walk-end _ _ _ Schemas _ (c .before .before .table-count .ensures) (isTable (c .before .before .before .before .args .p)) _ (c .before .loop .inv) (c .loop-test .left)
+returns-2 c =
+    let a = c .before .before .before .before .args in
+    walk-end (a .p) (a .places) (a .s .now) Schemas _ (c .before .before .table-count .ensures) (λ r. r) ((lists (a .p) (a .places) (a .s .now)) .schemas) (sym (map-id ((lists (a .p) (a .places) (a .s .now)) .schemas))) (isTable (a .p)) _ (c .before .loop .inv) (c .loop-test .left)
 
 pub are-tables-spec : {M : Type 1} → statement M
 are-tables-spec =

@@ -30,7 +30,7 @@ returns : tie.Need-returns
 returns c =
     let a = c .before .before .before .before .args in
     let q = c .before .before .before .before .pre in
-    column-1 (a .p) (q .0) (a .col .now) (λ i. omega (arith, c .before .before .before .shared-slice-known .given i)) (q .1) _ (c .before .is-name-cell .ensures) (c .if1 .taken)
+    column-1 (a .p) (q .0) (a .col .now) (λ i. c .before .before .before .shared-slice-known .given i .fits) (q .1) _ (c .before .is-name-cell .ensures) (c .if1 .taken)
 
 shared-slice-read-flags : tie.Need-shared-slice-read-flags
 shared-slice-read-flags c = omega (arith, long (c .before .before .before .before))
@@ -39,7 +39,7 @@ returns-2 : tie.Need-returns-2
 returns-2 c =
     let a = c .before .before .before .before .before .before .args in
     let q = c .before .before .before .before .before .before .pre in
-    column-2 (a .p) (q .0) (a .col .now) (λ i. omega (arith, c .before .before .before .before .before .shared-slice-known .given i)) (q .1) _ (c .before .before .before .is-name-cell .ensures) (c .before .before .if1 .left) (c .if2 .taken)
+    column-2 (a .p) (q .0) (a .col .now) (λ i. c .before .before .before .before .before .shared-slice-known .given i .fits) (q .1) _ (c .before .before .before .is-name-cell .ensures) (c .before .before .if1 .left) (c .if2 .taken)
 
 sub-is-default : tie.Need-sub-is-default
 sub-is-default c = search needs
@@ -57,7 +57,7 @@ returns-3 : tie.Need-returns-3
 returns-3 c =
     let a = c .before .before .before .before .before .before .before .before .before .args in
     let q = c .before .before .before .before .before .before .before .before .before .pre in
-    column-3 (a .p) (q .0) (a .col .now) (λ i. omega (arith, c .before .before .before .before .before .before .before .before .shared-slice-known .given i)) (q .1) _ (c .before .before .before .before .before .before .is-name-cell .ensures) (c .before .before .before .before .before .if1 .left) (c .before .before .before .if2 .left) _ (c .before .is-default .ensures) (c .if3 .taken)
+    column-3 (a .p) (q .0) (a .col .now) (λ i. c .before .before .before .before .before .before .before .before .shared-slice-known .given i .fits) (q .1) _ (c .before .before .before .before .before .before .is-name-cell .ensures) (c .before .before .before .before .before .if1 .left) (c .before .before .before .if2 .left) _ (c .before .is-default .ensures) (c .if3 .taken)
 
 sub-is-reference : tie.Need-sub-is-reference
 sub-is-reference c = search needs
@@ -75,7 +75,7 @@ returns-4 : tie.Need-returns-4
 returns-4 c =
     let a = c .before .before .before .before .before .before .before .before .before .before .before .before .args in
     let q = c .before .before .before .before .before .before .before .before .before .before .before .before .pre in
-    column-4 (a .p) (q .0) (a .col .now) (λ i. omega (arith, c .before .before .before .before .before .before .before .before .before .before .before .shared-slice-known .given i)) (q .1) _ (c .before .before .before .before .before .before .before .before .before .is-name-cell .ensures) (c .before .before .before .before .before .before .before .before .if1 .left) (c .before .before .before .before .before .before .if2 .left) _ (c .before .before .before .before .is-default .ensures) (c .before .before .before .if3 .left) _ (c .before .is-reference .ensures) (c .if4 .taken)
+    column-4 (a .p) (q .0) (a .col .now) (λ i. c .before .before .before .before .before .before .before .before .before .before .before .shared-slice-known .given i .fits) (q .1) _ (c .before .before .before .before .before .before .before .before .before .is-name-cell .ensures) (c .before .before .before .before .before .before .before .before .if1 .left) (c .before .before .before .before .before .before .if2 .left) _ (c .before .before .before .before .is-default .ensures) (c .before .before .before .if3 .left) _ (c .before .is-reference .ensures) (c .if4 .taken)
 
 shared-slice-read-kind : tie.Need-shared-slice-read-kind
 shared-slice-read-kind c = omega (arith, long (c .before .before .before .before .before .before .before .before .before .before .before .before))
@@ -84,13 +84,13 @@ returns-5 : tie.Need-returns-5
 returns-5 c =
     let a = c .before .before .before .before .before .before .before .before .before .before .before .before .before .before .args in
     let q = c .before .before .before .before .before .before .before .before .before .before .before .before .before .before .pre in
-    column-5 (a .p) (q .0) (a .col .now) (λ i. omega (arith, c .before .before .before .before .before .before .before .before .before .before .before .before .before .shared-slice-known .given i)) (q .1) _ (c .before .before .before .before .before .before .before .before .before .before .before .is-name-cell .ensures) (c .before .before .before .before .before .before .before .before .before .before .if1 .left) (c .before .before .before .before .before .before .before .before .if2 .left) _ (c .before .before .before .before .before .before .is-default .ensures) (c .before .before .before .before .before .if3 .left) _ (c .before .before .before .is-reference .ensures) (c .before .before .if4 .left) (c .if5 .taken)
+    column-5 (a .p) (q .0) (a .col .now) (λ i. c .before .before .before .before .before .before .before .before .before .before .before .before .before .shared-slice-known .given i .fits) (q .1) _ (c .before .before .before .before .before .before .before .before .before .before .before .is-name-cell .ensures) (c .before .before .before .before .before .before .before .before .before .before .if1 .left) (c .before .before .before .before .before .before .before .before .if2 .left) _ (c .before .before .before .before .before .before .is-default .ensures) (c .before .before .before .before .before .if3 .left) _ (c .before .before .before .is-reference .ensures) (c .before .before .if4 .left) (c .if5 .taken)
 
 returns-6 : tie.Need-returns-6
 returns-6 c =
     let a = c .before .before .before .before .before .before .before .before .before .before .before .before .before .before .args in
     let q = c .before .before .before .before .before .before .before .before .before .before .before .before .before .before .pre in
-    column-6 (a .p) (q .0) (a .col .now) (λ i. omega (arith, c .before .before .before .before .before .before .before .before .before .before .before .before .before .shared-slice-known .given i)) (q .1) _ (c .before .before .before .before .before .before .before .before .before .before .before .is-name-cell .ensures) (c .before .before .before .before .before .before .before .before .before .before .if1 .left) (c .before .before .before .before .before .before .before .before .if2 .left) _ (c .before .before .before .before .before .before .is-default .ensures) (c .before .before .before .before .before .if3 .left) _ (c .before .before .before .is-reference .ensures) (c .before .before .if4 .left) (c .if5 .left)
+    column-6 (a .p) (q .0) (a .col .now) (λ i. c .before .before .before .before .before .before .before .before .before .before .before .before .before .shared-slice-known .given i .fits) (q .1) _ (c .before .before .before .before .before .before .before .before .before .before .before .is-name-cell .ensures) (c .before .before .before .before .before .before .before .before .before .before .if1 .left) (c .before .before .before .before .before .before .before .before .if2 .left) _ (c .before .before .before .before .before .before .is-default .ensures) (c .before .before .before .before .before .if3 .left) _ (c .before .before .before .is-reference .ensures) (c .before .before .if4 .left) (c .if5 .left)
 
 pub is-column-spec : {M : Type 1} → statement M
 is-column-spec =

@@ -2,6 +2,7 @@
 use Prim.Native.Nat.{_≤_, _+_, _*_}
 use native.Mathlib.Omega.{arith}
 use lib.ListN.{length, getD}
+use Rattle.sound.proofs.Walks.{byte-fits}
 use Rattle.sound.proofs.Asking.{table-1, table-2, table-3, table-4, columns-fit}
 use Rattle.rules.specs.Profile.{schemaWidth}
 use borrow.Author.Needs.{needs}
@@ -35,19 +36,19 @@ returns : tie.Need-returns
 returns c =
     let a = c .before .before .before .before .args in
     let q = c .before .before .before .before .pre in
-    table-1 (a .p) (q .0) (a .rec .now) (λ i. omega (arith, c .before .before .before .shared-slice-known .given i)) (q .1) _ (c .before .is-name-cell .ensures) (c .if1 .taken)
+    table-1 (a .p) (q .0) (a .rec .now) (λ i. c .before .before .before .shared-slice-known .given i .fits) (q .1) _ (c .before .is-name-cell .ensures) (c .if1 .taken)
 
 shared-slice-read-count : tie.Need-shared-slice-read-count
 shared-slice-read-count c = omega (arith, long (c .before .before .before .before))
 
 cast-count : tie.Need-cast-count
-cast-count c = omega (arith, c .before .before .before .before .shared-slice-known .given 26)
+cast-count c = byte-fits (c .before .before .before .before .shared-slice-known .given 26)
 
 returns-2 : tie.Need-returns-2
 returns-2 c =
     let a = c .before .before .before .before .before .before .before .args in
     let q = c .before .before .before .before .before .before .before .pre in
-    table-2 (a .p) (q .0) (a .rec .now) (λ i. omega (arith, c .before .before .before .before .before .before .shared-slice-known .given i)) (q .1) _ (c .before .before .before .before .is-name-cell .ensures) (c .before .before .before .if1 .left) (c .if2 .taken)
+    table-2 (a .p) (q .0) (a .rec .now) (λ i. c .before .before .before .before .before .before .shared-slice-known .given i .fits) (q .1) _ (c .before .before .before .before .is-name-cell .ensures) (c .before .before .before .if1 .left) (c .if2 .taken)
 
 are-columns-requires : tie.Need-are-columns-requires
 are-columns-requires c κs = search needs
@@ -56,7 +57,7 @@ returns-3 : tie.Need-returns-3
 returns-3 c =
     let a = c .before .before .before .before .before .before .before .before .before .args in
     let q = c .before .before .before .before .before .before .before .before .before .pre in
-    table-3 (a .p) (q .0) (a .rec .now) (λ i. omega (arith, c .before .before .before .before .before .before .before .before .shared-slice-known .given i)) (q .1) _ (c .before .before .before .before .before .before .is-name-cell .ensures) (c .before .before .before .before .before .if1 .left) (c .before .before .if2 .left) _ (c .before .are-columns .ensures) (c .if3 .taken)
+    table-3 (a .p) (q .0) (a .rec .now) (λ i. c .before .before .before .before .before .before .before .before .shared-slice-known .given i .fits) (q .1) _ (c .before .before .before .before .before .before .is-name-cell .ensures) (c .before .before .before .before .before .if1 .left) (c .before .before .if2 .left) _ (c .before .are-columns .ensures) (c .if3 .taken)
 
 column-width-requires : tie.Need-column-width-requires
 column-width-requires c κs = search needs
@@ -83,7 +84,7 @@ returns-4 : tie.Need-returns-4
 returns-4 c =
     let a = c .before .before .before .before .before .before .before .before .before .before .before .before .args in
     let q = c .before .before .before .before .before .before .before .before .before .before .before .before .pre in
-    table-4 (a .p) (q .0) (a .rec .now) (λ i. omega (arith, c .before .before .before .before .before .before .before .before .before .before .before .shared-slice-known .given i)) (q .1) _ (c .before .before .before .before .before .before .before .before .before .is-name-cell .ensures) (c .before .before .before .before .before .before .before .before .if1 .left) (c .before .before .before .before .before .if2 .left) _ (c .before .before .before .before .are-columns .ensures) (c .before .before .before .if3 .left) _ (c .before .before .column-width .ensures) _ (c .all-zero .ensures)
+    table-4 (a .p) (q .0) (a .rec .now) (λ i. c .before .before .before .before .before .before .before .before .before .before .before .shared-slice-known .given i .fits) (q .1) _ (c .before .before .before .before .before .before .before .before .before .is-name-cell .ensures) (c .before .before .before .before .before .before .before .before .if1 .left) (c .before .before .before .before .before .if2 .left) _ (c .before .before .before .before .are-columns .ensures) (c .before .before .before .if3 .left) _ (c .before .before .column-width .ensures) _ (c .all-zero .ensures)
 
 pub is-table-spec : {M : Type 1} → statement M
 is-table-spec =
