@@ -39,22 +39,22 @@ use Rattle.laid.specs.Catalog.{TableBytes, before, placeOf, RunIn}
 use Rattle.checks.specs.Faults.{faultOf}
 use Rattle.checks.specs.declared.schema_fault.Fault as D
 use Rattle.walks.proofs.ByName.{run-in, tables-fall, tables-ranked}
-use Rattle.store.proofs.Dropped.{table-found}
 use Rattle.laid.proofs.Finding.{place-missing}
 use Rattle.store.proofs.Outcomes.{create-known, create-faulty, create-full, create-new, unchanged}
 use Rattle.laid.proofs.Runs.{run-ranked, run-place}
-use Rattle.laid.proofs.Searching.{tables-count}
+use Rattle.laid.proofs.Searching.{tables-count, found-table}
 use Rattle.laid.proofs.Stores.{store-valid, store-laid, store-lists}
 
-module _ (p : Profile) (R : ℕ) (s : List ℕ) (b : Store p R s) (rec : List ℕ) (k : TableBytes p rec) (n : Name) (en : n ≡ readName rec) where
+-- a fault that is none, as the code has it
+pub no-fault : (ts : List Table) (t : Table) (x : D.Fault) → faultOf x ≡ schemaFault ts t → eqb (numberOf (x .kind)) 0 ≡ true → schemaFault ts t ≡ none
+no-fault ts t x e u = sym (rw u at e)
+
+module _ {p : Profile} {R : ℕ} {s : List ℕ} (b : Store p R s) {rec : List ℕ} (k : TableBytes p rec) {n : Name} (en : n ≡ readName rec) where
   abbrev now : State
   now = parse p R s
 
   abbrev new : Table
   new = readTable p rec
-
-  abbrev all : Lists
-  all = recordsOf p now (indexed now)
 
   its-name : n ≡ new .name
   unfolding readTable
@@ -62,10 +62,9 @@ module _ (p : Profile) (R : ℕ) (s : List ℕ) (b : Store p R s) (rec : List �
 
   -- ---- refusals
 
-  pub known-kept : (i : ℕ) → some i ≡ placeOf (isNamed n) (now .tables) → (a : Answer) → said a ≡ no TableExists 0 → Stored p R (create p now new) s s a
-  known-kept i f a h =
-      let q = table-found (now .tables) n i f in
-      unchanged p R s b (create p now new) (no TableExists 0) (create-known p now new (q .0) (ap (tableNamed (now .tables)) (sym its-name) ∙ q .1)) a h
+  pub known-kept : {i : ℕ} → some i ≡ placeOf (isNamed n) (now .tables) → (a : Answer) → said a ≡ no TableExists 0 → Stored p R (create p now new) s s a
+  known-kept {i} f a h =
+      unchanged p R s b (create p now new) (no TableExists 0) (create-known p now new _ (ap (tableNamed (now .tables)) (sym its-name) ∙ found-table p R s n i f)) a h
 
   module _ (f : none ≡ placeOf (isNamed n) (now .tables)) where
     unnamed : tableNamed (now .tables) (new .name) ≡ none
@@ -76,93 +75,116 @@ module _ (p : Profile) (R : ℕ) (s : List ℕ) (b : Store p R s) (rec : List �
     faulty-kept x e u a h =
         unchanged p R s b (create p now new) (no (x .kind) (x .at)) (create-faulty p now new unnamed (x .kind) (x .at) (sym (rw u at e))) a h
 
-    -- ---- without a fault
+    pub full-kept : schemaFault (now .tables) new ≡ none → {count : ℕ} → count ≡ countAt tablesCount 1 s → p .tables ≤ count
+        → (a : Answer) → said a ≡ no TablesFull 0 → Stored p R (create p now new) s s a
+    full-kept g ec l a h = unchanged p R s b (create p now new) (no TablesFull 0) (create-full p now new unnamed g (omega (arith, ec, tables-count p R s))) a h
 
-    module _ (x : D.Fault) (e : faultOf x ≡ schemaFault (now .tables) new) (u : eqb (numberOf (x .kind)) 0 ≡ true)
-        (count : ℕ) (ec : count ≡ countAt tablesCount 1 s) where
-      faultless : schemaFault (now .tables) new ≡ none
-      faultless = sym (rw u at e)
+-- ---- a table that is taken: its place among the others
 
-      pub full-kept : p .tables ≤ count → (a : Answer) → said a ≡ no TablesFull 0 → Stored p R (create p now new) s s a
-      full-kept l a h =
-          unchanged p R s b (create p now new) (no TablesFull 0) (create-full p now new unnamed faultless (omega (arith, ec, tables-count p R s))) a h
+pub schemas-in : (p : Profile) (R : ℕ) (s : List ℕ) → Store p R s → (n : Name) → RunIn p R Schemas n s
+schemas-in p R s b n =
+    let st = parse p R s in
+    run-in p R Schemas n s (recordsOf p st (indexed st)) (store-laid p R s b) (b .coded) (tables-fall p (b .coded .known) R st (store-valid p R s b) n (indexed st))
 
-      -- the place by halving
-      pub schemas-in : RunIn p R Schemas n s
-      schemas-in = run-in p R Schemas n s all (store-laid p R s b) (b .coded) (tables-fall p (b .coded .known) R now (store-valid p R s b) n (indexed now))
+-- what the code has at hand there: the name n, the count of tables, a record's width w and the place i
+pub record Taken (p : Profile) (R : ℕ) (s rec : List ℕ) (n : Name) (count w i : ℕ) : Type 0 where
+  pub store : Store p R s
+  pub table : TableBytes p rec
+  pub named : n ≡ readName rec
+  pub missing : none ≡ placeOf (isNamed n) ((parse p R s) .tables)
+  pub faultless : schemaFault ((parse p R s) .tables) (readTable p rec) ≡ none
+  pub counted : count ≡ countAt tablesCount 1 s
+  pub room : count < p .tables
+  pub width : w ≡ schemaWidth p
+  pub place : i ≡ countOf (before n) (records w count (take (length s - headerWidth) (drop headerWidth s)))
 
-      module _ (l : count < p .tables) (w : ℕ) (ew : w ≡ schemaWidth p)
-          (i : ℕ) (ei : i ≡ countOf (before n) (records w count (take (length s - headerWidth) (drop headerWidth s)))) where
-        ranked : i ≡ rank cmpTable new (now .tables)
-        ranked =
-            run-ranked p R Schemas n s schemas-in headerWidth w (p .tables) refl ew refl count ec i ei
-            ∙ ap (λ (y : Lists). countOf (before n) (inArea Schemas y)) (store-lists p R s b)
-            ∙ tables-ranked p (b .coded .known) R now (store-valid p R s b) n (indexed now)
-            ∙ ap (λ (m : Name). countOf (λ (t : Table). isLt (cmpBytes (t .name) m)) (now .tables)) its-name
+module _ {p : Profile} {R : ℕ} {s rec : List ℕ} {n : Name} {count w i : ℕ} (q : Taken p R s rec n count w i) where
+  abbrev b : Store p R s
+  b = q .store
 
-        counted : count ≡ length (inArea Schemas all)
-        counted = ec ∙ laid-count p R s all (store-laid p R s b) Schemas
+  abbrev old : State
+  old = parse p R s
 
-        placed : i ≤ length (inArea Schemas all)
-        placed = omega (arith, counted, run-place p R Schemas n s schemas-in headerWidth w (p .tables) refl ew refl count ec i ei)
+  abbrev its : Table
+  its = readTable p rec
 
-        pub table-grows : Grows s tablesCount 1 headerWidth (p .tables) i w
-        table-grows = laid-grows p R s all (store-laid p R s b) Schemas headerWidth w (p .tables) refl ew refl i placed (omega (arith, counted))
+  abbrev all : Lists
+  all = recordsOf p old (indexed old)
 
-        module _ (s₁ : List ℕ) (e₁ : s₁ ≡ grown tablesCount 1 headerWidth (p .tables) i (replicate w 0) s) where
-          abbrev opened : Lists
-          opened = withArea Schemas (insertAt i (replicate w 0) (inArea Schemas all)) all
+  free : tableNamed (old .tables) (its .name) ≡ none
+  free = unnamed b (q .table) (q .named) (q .missing)
 
-          open-laid : Laid p R s₁ opened
-          open-laid =
-              rw e₁
-              (laid-grown p R s all (store-laid p R s b) Schemas headerWidth w (p .tables) refl ew refl i (replicate w 0)
-              (record { width = length-replicate w 0; at-le = placed; room = omega (arith, counted) }))
+  ranked : i ≡ rank cmpTable its (old .tables)
+  ranked =
+      run-ranked p R Schemas n s (schemas-in p R s b n) headerWidth w (p .tables) refl (q .width) refl count (q .counted) i (q .place)
+      ∙ ap (λ (y : Lists). countOf (before n) (inArea Schemas y)) (store-lists p R s b)
+      ∙ tables-ranked p (b .coded .known) R old (store-valid p R s b) n (indexed old)
+      ∙ ap (λ (m : Name). countOf (λ (t : Table). isLt (cmpBytes (t .name) m)) (old .tables)) (its-name b (q .table) (q .named))
 
-          long : length rec ≡ w
-          long = k .long ∙ sym ew
+  counted : count ≡ length (inArea Schemas all)
+  counted = q .counted ∙ laid-count p R s all (store-laid p R s b) Schemas
 
-          pub record-fits : headerWidth + i * length rec + length rec ≤ length s₁
-          record-fits = rw long (laid-within p R s₁ opened open-laid Schemas headerWidth w (p .tables) refl ew refl i (omega (arith, placed, counted)))
+  placed : i ≤ length (inArea Schemas all)
+  placed =
+      omega (arith, counted, run-place p R Schemas n s (schemas-in p R s b n) headerWidth w (p .tables) refl (q .width) refl count (q .counted) i (q .place))
 
-          -- the record over the zeros
-          written : insertAt i rec (inArea Schemas all) ≡ replaceAt i rec (inArea Schemas opened)
-          written = sym (replace-insert i rec (replicate w 0) (inArea Schemas all) placed)
+  pub table-grows : Grows s tablesCount 1 headerWidth (p .tables) i w
+  table-grows = laid-grows p R s all (store-laid p R s b) Schemas headerWidth w (p .tables) refl (q .width) refl i placed (omega (arith, counted, q .room))
 
-          table-in : (s₂ : List ℕ) → s₂ ≡ withRecord headerWidth i rec s₁ → Laid p R s₂ (withArea Schemas (insertAt i rec (inArea Schemas all)) all)
-          unfolding withRecord
-          table-in s₂ e₂ =
-              rw (e₂, written, long)
-              (laid-replaced p R s₁ opened open-laid Schemas headerWidth w (p .tables) refl ew refl i rec long
-              (omega (arith, placed, length-insert-at i (replicate w 0) (inArea Schemas all) placed)))
+  module _ {s₁ : List ℕ} (e₁ : s₁ ≡ grown tablesCount 1 headerWidth (p .tables) i (replicate w 0) s) where
+    abbrev opened : Lists
+    opened = withArea Schemas (insertAt i (replicate w 0) (inArea Schemas all)) all
 
-          -- no table has the name, so no row is of it
-          none-named : holds cmpTable new (now .tables) ≡ false
-          none-named = any-none (isNamed (new .name)) (now .tables) (λ t m. find-none (isNamed (new .name)) t (now .tables) unnamed m)
+    open-laid : Laid p R s₁ opened
+    open-laid =
+        rw e₁
+        (laid-grown p R s all (store-laid p R s b) Schemas headerWidth w (p .tables) refl (q .width) refl i (replicate w 0)
+        (record { width = length-replicate w 0; at-le = placed; room = omega (arith, counted, q .room) }))
 
-          other-table : (r : Row) → In r (now .rows) → sameName (new .name) (r .table) ≡ false
-          other-table r m = go (sameName (new .name) (r .table)) refl
-            where
-              go : (c : Bool) → sameName (new .name) (r .table) ≡ c → c ≡ false
-              go false q = refl
-              go true q =
-                  absurd
-                  (Option·none-ne-some _
-                  (sym unnamed ∙ ap (tableNamed (now .tables)) (name-is (new .name) (r .table) q) ∙ store-valid p R s b .rows r m .named))
+    long : length rec ≡ w
+    long = q .table .long ∙ sym (q .width)
 
-          pub table-created : (s₂ : List ℕ) → s₂ ≡ withRecord headerWidth i rec s₁ → (a : Answer) → said a ≡ ok 0 → Stored p R (create p now new) s s₂ a
-          unfolding image applyAll apply
-          table-created s₂ e₂ a h =
-              rw (create-new p now new unnamed faultless (omega (arith, ec, tables-count p R s)))
-              (record {
-                answer = h;
-                bytes =
-                    table-in s₂ e₂ .whole
-                    ∙ ap (λ (r : List ℕ). layout p R (withArea Schemas (insertAt i r (inArea Schemas all)) all)) (sym (k .whole))
-                    ∙ ap (layout p R) (insert-table p now (indexed now) i new)
-                    ∙ ap (λ (j : ℕ). layout p R (recordsOf p (record { tables = insertAt j new (now .tables); rows = now .rows }) (indexed now))) ranked
-                    ∙ ap (λ (ts : List Table). layout p R (recordsOf p (record { tables = ts; rows = now .rows }) (indexed now)))
-                    (sym (insert-new ordTable new (now .tables) (store-valid p R s b .tables-sorted) none-named))
-                    ∙ ap (λ (es : List Entry). layout p R (recordsOf p (record { tables = insertBy cmpTable new (now .tables); rows = now .rows }) es))
-                    (sym (index-created new (now .tables) (now .rows) other-table));
-              })
+    pub record-fits : headerWidth + i * length rec + length rec ≤ length s₁
+    record-fits = rw long (laid-within p R s₁ opened open-laid Schemas headerWidth w (p .tables) refl (q .width) refl i (omega (arith, placed, counted, q .room)))
+
+    -- the record over the zeros
+    written : insertAt i rec (inArea Schemas all) ≡ replaceAt i rec (inArea Schemas opened)
+    written = sym (replace-insert i rec (replicate w 0) (inArea Schemas all) placed)
+
+    table-in : {s₂ : List ℕ} → s₂ ≡ withRecord headerWidth i rec s₁ → Laid p R s₂ (withArea Schemas (insertAt i rec (inArea Schemas all)) all)
+    unfolding withRecord
+    table-in e₂ =
+        rw (e₂, written, long)
+        (laid-replaced p R s₁ opened open-laid Schemas headerWidth w (p .tables) refl (q .width) refl i rec long
+        (omega (arith, placed, length-insert-at i (replicate w 0) (inArea Schemas all) placed)))
+
+    -- no table has the name, so no row is of it
+    none-named : holds cmpTable its (old .tables) ≡ false
+    none-named = any-none (isNamed (its .name)) (old .tables) (λ t m. find-none (isNamed (its .name)) t (old .tables) free m)
+
+    other-table : (r : Row) → In r (old .rows) → sameName (its .name) (r .table) ≡ false
+    other-table r m = go (sameName (its .name) (r .table)) refl
+      where
+        go : (c : Bool) → sameName (its .name) (r .table) ≡ c → c ≡ false
+        go false e = refl
+        go true e =
+            absurd
+            (Option·none-ne-some _
+            (sym free ∙ ap (tableNamed (old .tables)) (name-is (its .name) (r .table) e) ∙ store-valid p R s b .rows r m .named))
+
+    pub table-created : {s₂ : List ℕ} → s₂ ≡ withRecord headerWidth i rec s₁ → (a : Answer) → said a ≡ ok 0 → Stored p R (create p old its) s s₂ a
+    unfolding image applyAll apply
+    table-created e₂ a h =
+        rw (create-new p old its free (q .faultless) (omega (arith, q .counted, q .room, tables-count p R s)))
+        (record {
+          answer = h;
+          bytes =
+              table-in e₂ .whole
+              ∙ ap (λ (r : List ℕ). layout p R (withArea Schemas (insertAt i r (inArea Schemas all)) all)) (sym (q .table .whole))
+              ∙ ap (layout p R) (insert-table p old (indexed old) i its)
+              ∙ ap (λ (j : ℕ). layout p R (recordsOf p (record { tables = insertAt j its (old .tables); rows = old .rows }) (indexed old))) ranked
+              ∙ ap (λ (ts : List Table). layout p R (recordsOf p (record { tables = ts; rows = old .rows }) (indexed old)))
+              (sym (insert-new ordTable its (old .tables) (store-valid p R s b .tables-sorted) none-named))
+              ∙ ap (λ (es : List Entry). layout p R (recordsOf p (record { tables = insertBy cmpTable its (old .tables); rows = old .rows }) es))
+              (sym (index-created its (old .tables) (old .rows) other-table));
+        })

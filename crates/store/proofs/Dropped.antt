@@ -17,7 +17,7 @@ use Rattle.values.proofs.Placing.{rank, holds, keep-others}
 use Rattle.rules.specs.declared.profile.Profile.{Profile}
 use Rattle.rules.specs.declared.answer.Answer.{Answer}
 use Rattle.rules.specs.Profile.{headerWidth, schemaWidth}
-use Rattle.rules.specs.State.{Name, Table, Row, State, cmpTable, isNamed, tableNamed}
+use Rattle.rules.specs.State.{Name, Table, Row, State, cmpTable, isNamed}
 use Rattle.rules.specs.Index.{Entry}
 use Rattle.rules.specs.Layout.{Laid, Schemas, Rows, Entries, inArea, tablesCount, recordsOf, layout, image, parse, unknown}
 use Rattle.rules.specs.declared.answer.Refusal.the-variants.{UnknownTable, TableReferenced}
@@ -29,7 +29,6 @@ use Rattle.rules.proofs.Groups.{index-without}
 use Rattle.rules.proofs.Index.{ordTable}
 use Rattle.rules.proofs.Keeps.{named-is}
 use Rattle.rules.proofs.Laid.{laid-shrinks, laid-shrunk}
-use Rattle.rules.proofs.Lists.{below-nth}
 use Rattle.rules.proofs.Removed.{withRows, without, drop-comes}
 use Rattle.rules.proofs.Room.{indexed}
 use Rattle.laid.specs.Store.{Store, Stored}
@@ -39,16 +38,10 @@ use Rattle.store.specs.Referenced.{referenceOf}
 use Rattle.walks.proofs.ByName.{entriesOutside, rowsOutside, run-in, run-left, entries-fall, entries-gone, rows-fall, rows-gone}
 use Rattle.laid.proofs.Finding.{place-found, place-missing, no-place, place-rank}
 use Rattle.store.proofs.Outcomes.{drop-unknown, drop-nothing, drop-referenced, drop-known, unchanged}
+use Rattle.laid.proofs.Searching.{found-table}
 use Rattle.laid.proofs.Stores.{store-valid, store-laid}
 
--- the table at the place that is found
-pub table-found : (ts : List Table) (n : Name) (i : ℕ) → some i ≡ placeOf (isNamed n) ts → (t : Table) × (tableNamed ts n ≡ some t)
-table-found ts n i f =
-    let q = place-found (isNamed n) ts i (sym f) in
-    let r = below-nth ts i (q .0) in
-    (r .0, sym (q .1) ∙ r .1)
-
-module _ (p : Profile) (R : ℕ) (s : List ℕ) (b : Store p R s) (n : Name) where
+module _ {p : Profile} {R : ℕ} {s : List ℕ} (b : Store p R s) (n : Name) where
   abbrev before : State
   before = parse p R s
 
@@ -60,23 +53,22 @@ module _ (p : Profile) (R : ℕ) (s : List ℕ) (b : Store p R s) (n : Name) whe
 
   -- ---- refusals
 
-  pub unknown-kept : (l : Bool) → l ≡ false → none ≡ placeOf (isNamed n) (before .tables) → (a : Answer) → said a ≡ no UnknownTable 0 → Stored p R (drop before n l) s s a
-  unknown-kept l e f a h =
+  pub unknown-kept : {l : Bool} → l ≡ false → none ≡ placeOf (isNamed n) (before .tables) → (a : Answer) → said a ≡ no UnknownTable 0 → Stored p R (drop before n l) s s a
+  unknown-kept {l} e f a h =
       unchanged p R s b (drop before n l) (no UnknownTable 0) (rw e (drop-unknown before n (place-missing (isNamed n) (before .tables) (sym f)))) a h
 
-  pub unknown-passed : (l : Bool) → l ≡ true → none ≡ placeOf (isNamed n) (before .tables) → (a : Answer) → said a ≡ ok 0 → Stored p R (drop before n l) s s a
-  unknown-passed l e f a h =
+  pub unknown-passed : {l : Bool} → l ≡ true → none ≡ placeOf (isNamed n) (before .tables) → (a : Answer) → said a ≡ ok 0 → Stored p R (drop before n l) s s a
+  unknown-passed {l} e f a h =
       unchanged p R s b (drop before n l) (ok 0) (rw e (drop-nothing before n (place-missing (isNamed n) (before .tables) (sym f)))) a h
 
-  pub referenced-kept : (l : Bool) (i : ℕ) → some i ≡ placeOf (isNamed n) (before .tables)
+  pub referenced-kept : (l : Bool) {i : ℕ} → some i ≡ placeOf (isNamed n) (before .tables)
       → (r : Reference) → r .found ≡ true → referenceOf r ≡ tableReferenced n (before .tables)
       → (a : Answer) → said a ≡ noCarrying TableReferenced 0 (carriedBy (textBytes (r .table)) (r .column) (meaning Null)) → Stored p R (drop before n l) s s a
   unfolding meaning
-  referenced-kept l i f r t e a h =
-      let q = table-found (before .tables) n i f in
+  referenced-kept l {i} f r t e a h =
       let x : Carried = carriedBy (textBytes (r .table)) (r .column) null in
       let g : tableReferenced n (before .tables) ≡ some x = sym (rw t at e) in
-      unchanged p R s b (drop before n l) (noCarrying TableReferenced 0 x) (drop-referenced before n l (q .0) (q .1) x g) a h
+      unchanged p R s b (drop before n l) (noCarrying TableReferenced 0 x) (drop-referenced before n l _ (found-table p R s n i f) x g) a h
 
   -- ---- the three steps
 
@@ -85,7 +77,7 @@ module _ (p : Profile) (R : ℕ) (s : List ℕ) (b : Store p R s) (n : Name) whe
       run-in p R Entries n s (recordsOf p before (indexed before)) (store-laid p R s b) (b .coded)
       (entries-fall p (b .coded .known) R before (store-valid p R s b) n)
 
-  module _ (s₁ : List ℕ) (o₁ : RunOut p R Entries n s s₁) where
+  module _ {s₁ : List ℕ} (o₁ : RunOut p R Entries n s s₁) where
     entries-left : Laid p R s₁ (recordsOf p before few)
     entries-left =
         rw (entries-gone p (b .coded .known) R before (store-valid p R s b) n)
@@ -94,13 +86,13 @@ module _ (p : Profile) (R : ℕ) (s : List ℕ) (b : Store p R s) (n : Name) whe
     pub rows-in : RunIn p R Rows n s₁
     rows-in = run-in p R Rows n s₁ (recordsOf p before few) entries-left (b .coded) (rows-fall p (b .coded .known) R before (store-valid p R s b) n few)
 
-    module _ (s₂ : List ℕ) (o₂ : RunOut p R Rows n s₁ s₂) where
+    module _ {s₂ : List ℕ} (o₂ : RunOut p R Rows n s₁ s₂) where
       rows-left : Laid p R s₂ (recordsOf p (withRows before rest) few)
       rows-left =
           rw (rows-gone p (b .coded .known) R before (store-valid p R s b) n few)
           at (run-left p R Rows n s₁ (recordsOf p before few) entries-left s₂ o₂)
 
-      module _ (i : ℕ) (f : some i ≡ placeOf (isNamed n) (before .tables)) (w : ℕ) (ew : w ≡ schemaWidth p) where
+      module _ {i : ℕ} (f : some i ≡ placeOf (isNamed n) (before .tables)) {w : ℕ} (ew : w ≡ schemaWidth p) where
         within : i + 1 ≤ length (inArea Schemas (recordsOf p (withRows before rest) few))
         unfolding recordsOf
         within = rw length-map (omega (arith, place-found (isNamed n) (before .tables) i (sym f) .0))
@@ -126,13 +118,14 @@ module _ (p : Profile) (R : ℕ) (s : List ℕ) (b : Store p R s) (n : Name) whe
             rw (remove-tables p (withRows before rest) few i 1 ∙ ap (λ (ts : List Table). recordsOf p (record { tables = ts; rows = rest }) few) table-gone)
             at (laid-shrunk p R s₂ (recordsOf p (withRows before rest) few) rows-left Schemas headerWidth w (p .tables) refl ew refl i 1 within)
 
-        pub table-dropped : (l : Bool) (r : Reference) → r .found ≡ false → referenceOf r ≡ tableReferenced n (before .tables) → (s₃ : List ℕ) → s₃ ≡ shrunk tablesCount 1 headerWidth (p .tables) w i 1 s₂
+        pub table-dropped : (l : Bool) (r : Reference) → r .found ≡ false → referenceOf r ≡ tableReferenced n (before .tables)
+            → {s₃ : List ℕ} → s₃ ≡ shrunk tablesCount 1 headerWidth (p .tables) w i 1 s₂
             → (a : Answer) → said a ≡ ok 1 → Stored p R (drop before n l) s s₃ a
         unfolding image
-        table-dropped l r u g s₃ e a h =
-            let t = table-found (before .tables) n i f in
-            let o = drop-known before n l (t .0) (t .1) (sym (rw u at g)) in
-            let d = drop-comes before n (t .0) (named-is (before .tables) n (t .0) (t .1)) in
+        table-dropped l r u g e a h =
+            let t = found-table p R s n i f in
+            let o = drop-known before n l _ t (sym (rw u at g)) in
+            let d = drop-comes before n _ (named-is (before .tables) n _ t) in
             rw o
             (record {
               answer = h;

@@ -34,8 +34,8 @@ use Rattle.laid.specs.Row.{rowIn, tableIn, RowOf}
 use Rattle.laid.specs.Store.{LaidStore, Store, Stored}
 use Rattle.laid.proofs.Finding.{place-found, place-missing}
 use Rattle.laid.proofs.Keyed.{row-at}
+use Rattle.store.proofs.Lookups.{table-known, stored}
 use Rattle.store.proofs.Outcomes.{unchanged}
-use Rattle.laid.proofs.RowFacts.{table-there}
 use Rattle.laid.proofs.Stores.{held-state, held-inside}
 
 -- ---- fewer rows
@@ -108,11 +108,12 @@ key-then p R s b t k s₁ e ks =
 
 -- ---- one key, as the code finds its row
 
-module _ (p : Profile) (R : ℕ) (s : List ℕ) (b : LaidStore p R s) (t : ℕ) (known : t < length ((parse p R s) .tables)) (n : Name) (en : n ≡ (tableIn p R s t) .name) (k : Value) where
+module _ {p : Profile} {R : ℕ} {s : List ℕ} (b : LaidStore p R s) (t : ℕ) (known : t < length ((parse p R s) .tables)) {n : Name} (en : n ≡ (tableIn p R s t) .name)
+    (k : Value) where
   abbrev rows : List Row
   rows = (parse p R s) .rows
 
-  module _ (i : ℕ) (f : some i ≡ placeOf (isRow n k) rows) where
+  module _ {i : ℕ} (f : some i ≡ placeOf (isRow n k) rows) where
     row-below : i < length rows
     row-below = place-found (isRow n k) rows i (sym f) .0
 
@@ -131,10 +132,10 @@ module _ (p : Profile) (R : ℕ) (s : List ℕ) (b : LaidStore p R s) (t : ℕ) 
     unfolding removalsIn removals maybe
     goes = rw (← en, row-is)
 
-    pub key-gone : (s₁ : List ℕ) → s₁ ≡ image p R (apply (removed (rowIn p R s i)) (parse p R s))
+    pub key-gone : {s₁ : List ℕ} → s₁ ≡ image p R (apply (removed (rowIn p R s i)) (parse p R s))
         → Removes p R s t (k ∷ []) s₁ × (true ≡ not (isNil (removalsIn p R s t (k ∷ []))))
     unfolding applyAll
-    key-gone s₁ e = rw goes (e, refl)
+    key-gone e = rw goes (e, refl)
 
   pub key-absent : none ≡ placeOf (isRow n k) rows → Removes p R s t (k ∷ []) s × (false ≡ not (isNil (removalsIn p R s t (k ∷ []))))
   unfolding removalsIn removals applyAll maybe
@@ -202,22 +203,21 @@ module _ (p : Profile) (R : ℕ) (s : List ℕ) (b : Store p R s) (n : Name) (ks
 
   module _ (t : ℕ) (f : some t ≡ placeOf (isNamed n) (before .tables)) where
     pub table-below : t < length (before .tables)
-    table-below = place-found (isNamed n) (before .tables) t (sym f) .0
-
-    table-its : tableNamed (before .tables) n ≡ some (tableIn p R s t)
-    table-its = sym (place-found (isNamed n) (before .tables) t (sym f) .1) ∙ table-there p R s t table-below
+    table-below = table-known p R s n t f
 
     module _ (r : Referrer) (e : referrerOf r ≡ rowReferenced (before .rows) n ks (before .tables)) where
-      pub delete-held : r .found ≡ true → (a : Answer) → said a ≡ noCarrying RowReferenced 0 (carriedBy (textBytes (r .table)) (r .column) (held (r .key))) → Stored p R (delete before n ks) s s a
+      pub delete-held : r .found ≡ true → (a : Answer) → said a ≡ noCarrying RowReferenced 0 (carriedBy (textBytes (r .table)) (r .column) (held (r .key)))
+          → Stored p R (delete before n ks) s s a
       delete-held h a g =
           let x : Carried = carriedBy (textBytes (r .table)) (r .column) (held (r .key)) in
-          unchanged p R s b (delete before n ks) (noCarrying RowReferenced 0 x) (delete-referenced before n ks (tableIn p R s t) table-its x (sym (rw h at e))) a g
+          unchanged p R s b (delete before n ks) (noCarrying RowReferenced 0 x) (delete-referenced before n ks (tableIn p R s t) (stored p R s n t f) x (sym (rw h at e))) a g
 
-      pub delete-goes : r .found ≡ false → (s₁ : List ℕ) (m : ℕ) → Removes p R s t ks s₁ × (m ≡ length ks) → (a : Answer) → said a ≡ ok m → Stored p R (delete before n ks) s s₁ a
+      pub delete-goes : r .found ≡ false → (s₁ : List ℕ) (m : ℕ) → Removes p R s t ks s₁ × (m ≡ length ks) → (a : Answer) → said a ≡ ok m
+          → Stored p R (delete before n ks) s s₁ a
       unfolding removalsIn
       delete-goes h s₁ m g a w =
-          let named : (tableIn p R s t) .name ≡ n = named-is (before .tables) n (tableIn p R s t) table-its in
-          rw (delete-known before n ks (tableIn p R s t) table-its (sym (rw h at e)))
+          let named : (tableIn p R s t) .name ≡ n = named-is (before .tables) n (tableIn p R s t) (stored p R s n t f) in
+          rw (delete-known before n ks (tableIn p R s t) (stored p R s n t f) (sym (rw h at e)))
           (record {
             answer = w ∙ ap ok (g .1);
             bytes = g .0 ∙ ap (λ (m : Name). image p R (applyAll (removals (before .rows) m ks) before)) named;

@@ -13,7 +13,7 @@ use Rattle.values.specs.Cell.{nameWidth}
 use Rattle.rules.specs.declared.profile.Profile.{Profile}
 use Rattle.rules.specs.declared.answer.Refusal.the-variants.{UnknownTable, NotIndexed}
 use Rattle.rules.specs.State as S
-use Rattle.rules.specs.State.{Name, Table, Row, State, isNamed, tableNamed, ofTable, isRow, cellAt}
+use Rattle.rules.specs.State.{Name, Table, Row, isNamed, tableNamed, ofTable, isRow, cellAt}
 use Rattle.rules.specs.Layout.{lists, parse}
 use Rattle.rules.specs.Request.{ok, no}
 use Rattle.rules.specs.Schema.{first, at}
@@ -39,7 +39,8 @@ nowhere q xs h = go (placeOf q xs) refl
     go none e = refl
     go (some i) e = absurd (true≢false (place-some q xs i (sym e) ∙ h))
 
-pub key-nowhere : (p : Profile) (R : ℕ) (s : List ℕ) → LaidStore p R s → (n : Name) (v : Value) → none ≡ placeOf (isNamed n) ((parse p R s) .tables) → none ≡ placeOf (isRow n v) ((parse p R s) .rows)
+pub key-nowhere : (p : Profile) (R : ℕ) (s : List ℕ) → LaidStore p R s → (n : Name) (v : Value) → none ≡ placeOf (isNamed n) ((parse p R s) .tables)
+    → none ≡ placeOf (isRow n v) ((parse p R s) .rows)
 key-nowhere p R s b n v e = nowhere (isRow n v) ((parse p R s) .rows) (no-rows p R s b n v e)
 
 -- ---- whether a column is indexed
@@ -78,7 +79,7 @@ module _ (p : Profile) (R : ℕ) (s : List ℕ) (n : Name) where
     pub table-known : t < length tables
     table-known = place-found (isNamed n) tables t (sym e) .0
 
-    stored : tableNamed tables n ≡ some (tableIn p R s t)
+    pub stored : tableNamed tables n ≡ some (tableIn p R s t)
     stored = sym (place-found (isNamed n) tables t (sym e) .1) ∙ table-there p R s t table-known
 
     module _ (i : ℕ) (x : Bool) (ex : x ≡ isIndexed (tableIn p R s t) i) where

@@ -1,30 +1,31 @@
--- The table that is read from the record at a place of the catalog. Assumes nothing.
+-- The table that is read from the record at a place of the catalog, and what the code reads of it: its name, its key column, and the key's cell
+-- of a row. Assumes nothing.
 use mathlib.Core.Path.{_≡_, sym, ap, _∙_}
 use mathlib.Core.Option.{some, Option·map}
-use Prim.Native.Nat.{ℕ, zero, suc, _≤_, _<_}
-use native.Mathlib.Nat.{not-suc-le-zero, le-of-suc-le-suc}
+use Prim.Native.Nat.{ℕ, _≤_, _<_}
 use native.Mathlib.Omega.{arith}
-use mathlib.Core.List.{List, [], _∷_}
+use mathlib.Core.List.{List, []}
 use lib.ListN.{length, getD}
 use Rattle.values.specs.Basic.{nth}
 use Rattle.values.specs.Cell.{nameWidth, readName}
 use Rattle.values.specs.Counted.{countAt}
-use Rattle.values.specs.Meaning.{textBytes, Packed}
-use Rattle.values.specs.Sorted.{All}
+use Rattle.values.specs.Meaning.{textBytes, Packed, held, Proper}
+use Rattle.values.specs.declared.value.Cell.{Cell}
 use Rattle.values.specs.declared.value.Text.{Text}
+use Rattle.values.specs.declared.value.Value.the-variants.{Null}
 use Rattle.rules.specs.declared.profile.Profile.{Profile}
-use Rattle.rules.specs.State.{Table}
+use Rattle.rules.specs.State.{Name, Table, keyOf}
 use Rattle.rules.specs.Layout.{lists, Schemas, tablesCount, readTable, parse}
+use Rattle.laid.specs.declared.row.Row.{Row}
 use Rattle.laid.specs.Catalog.{TableBytes, Catalog, TableName}
+use Rattle.laid.specs.Row.{cellsOf, tableIn, KeyColumn, FullRow}
+use Rattle.laid.specs.Store.{Inside, LaidStore}
 use Rattle.laid.proofs.Inside.{area-count}
-use Rattle.laid.proofs.Columns.{record-least}
-use Rattle.laid.proofs.Finding.{nth-map, nth-getD}
-use Rattle.laid.proofs.Searching.{tables-read, tables-count}
-
-all-getD : {A : Type 0} (P : A → Type 0) (xs : List A) (i : ℕ) (d : A) → All P xs → i < length xs → P (getD xs i d)
-all-getD P [] i d h l = absurd (not-suc-le-zero l)
-all-getD P (x ∷ xs) zero d h l = h .0
-all-getD P (x ∷ xs) (suc i) d h l = all-getD P xs i d (h .1) (le-of-suc-le-suc l)
+use Rattle.laid.proofs.Columns.{columnsOf, record-least}
+use Rattle.laid.proofs.RowFacts.{start-least, start-name}
+use Rattle.laid.proofs.Searching.{tables-count, table-at, table-bytes-at}
+use Rattle.laid.proofs.Stores.{held-inside}
+use Rattle.checks.proofs.Fitting.{key-within-columns, key-of-table, few-columns-8, cell-proper, key-is}
 
 module _ (p : Profile) (R : ℕ) (s : List ℕ) (i : ℕ) where
   -- a place among those that are counted, or among the tables, is one among the records
@@ -36,11 +37,7 @@ module _ (p : Profile) (R : ℕ) (s : List ℕ) (i : ℕ) where
 
   module _ (l : i < length ((lists p R s) .schemas)) (rec : List ℕ) (er : rec ≡ getD ((lists p R s) .schemas) i []) where
     pub table-nth : nth ((parse p R s) .tables) i ≡ some (readTable p rec)
-    table-nth =
-        ap (λ (ts : List Table). nth ts i) (tables-read p R s)
-        ∙ nth-map (readTable p) ((lists p R s) .schemas) i
-        ∙ ap (Option·map (readTable p)) (nth-getD ((lists p R s) .schemas) i [] l)
-        ∙ ap (λ (r : List ℕ). some (readTable p r)) (sym er)
+    table-nth = rw er (table-at p R s i l)
 
     pub name-read : (t : Text) → textBytes t ≡ readName rec → Packed t → TableName p R s i t
     unfolding readTable
@@ -48,7 +45,46 @@ module _ (p : Profile) (R : ℕ) (s : List ℕ) (i : ℕ) where
 
     module _ (k : Catalog p R s) where
       pub record-bytes : TableBytes p rec
-      record-bytes = rw er (all-getD (TableBytes p) ((lists p R s) .schemas) i [] (k .records) l)
+      record-bytes = rw er (table-bytes-at p R s i l k)
 
       pub record-named : nameWidth ≤ length rec
       record-named = omega (arith, record-least p rec record-bytes)
+
+-- ---- the table at place t of a store, as the code reads it
+
+-- what stands past the end of an array of cells
+abbrev pub blank : Cell
+blank = record { value = Null }
+
+module _ {p : Profile} {R : ℕ} {s : List ℕ} (b : LaidStore p R s) (t : ℕ) (h : t < length ((parse p R s) .tables)) where
+  pub record-asked : Inside p R s × (t < length ((lists p R s) .schemas))
+  record-asked = (held-inside p R s b, table-among p R s t h)
+
+  module _ {rec : List ℕ} (er : rec ≡ getD ((lists p R s) .schemas) t []) where
+    pub name-fits : nameWidth ≤ length rec
+    name-fits = omega (arith, start-least p R s b t h rec er)
+
+    pub key-fits : 26 ≤ length rec
+    key-fits = omega (arith, start-least p R s b t h rec er)
+
+    pub its-name : {n : Name} → n ≡ readName rec → n ≡ (tableIn p R s t) .name
+    its-name en = en ∙ start-name p R s b t h rec er
+
+    module _ {at : ℕ} (ea : at ≡ getD rec nameWidth 0) where
+      -- the name was read from the record as it was lent before
+      pub its-key : {old : List ℕ} → old ≡ getD ((lists p R s) .schemas) t [] → {n : Name} → n ≡ readName old → KeyColumn p R s n at
+      its-key eo {n} en = key-of-table p R s t b h rec er n (en ∙ ap readName (eo ∙ sym er)) at ea
+
+      -- the key's cell of a row that fills the table
+      module _ {row : Row} (f : FullRow p R s t row) where
+        within : at < length (columnsOf p rec)
+        within = key-within-columns p R s t b h rec er at ea
+
+        pub key-few : at < 8
+        key-few = omega (arith, within, few-columns-8 p R s t b h rec er row f)
+
+        pub key-proper : Proper ((getD (row .cells) at blank) .value)
+        key-proper = cell-proper p R s t b h rec er row f at within blank
+
+        pub key-held : held (getD (row .cells) at blank) ≡ keyOf (tableIn p R s t) (cellsOf row)
+        key-held = key-is p R s t b h rec er row f at ea blank

@@ -140,7 +140,7 @@ cells-canonical (c ∷ cs) h n =
     (subst (λ (v : Value). canonical v ≡ true) (n .0) (range-canonical (held c) (proper-storable (c .value) (h .0) .inside)))
     (cells-canonical cs (h .1) (n .1))
 
-module _ (p : Profile) (R : ℕ) (s : List ℕ) (b : Store p R s) (t : ℕ) (row : Row) (f : FullRow p R s t row) where
+module _ {p : Profile} {R : ℕ} {s : List ℕ} (b : Store p R s) {t : ℕ} {row : Row} (f : FullRow p R s t row) where
   abbrev st : State
   st = parse p R s
 
@@ -163,70 +163,67 @@ module _ (p : Profile) (R : ℕ) (s : List ℕ) (b : Store p R s) (t : ℕ) (row
   with-row : (u : Bool) → rowFault p R st T u v ≡ none → Valid p R (withRows st (withRow (rowOf T v) (st .rows)))
   with-row u h = put-valid p R st T u v own-named row-ready (row-passes p R st T u v h) (store-valid p R s b)
 
+  pub passes : (u : Bool) {k : Refusal} → k ≡ kindOfFault (rowFault p R st T u v) → eqb (numberOf k) 0 ≡ true → rowFault p R st T u v ≡ none
+  passes u {k} ek g = first-passes k (rowFault p R st T u v) ek (row-told p R st T u v) g
+
   -- ---- an insert, the row with number m
 
-  module _ (k : Refusal) (ek : k ≡ kindOfFault (rowFault p R st T false v)) where
-    pub insert-refused : eqb (numberOf k) 0 ≡ false → (m : ℕ) (a : Answer) → said a ≡ no k m → Stored p R (numbered m (insertRow p R T st v)) s s a
-    insert-refused g m a h =
-        refused-at p R s b m (insertRow p R T st v) (no k 0) (insert-faulty p R T st v k (fault-told k (rowFault p R st T false v) ek g)) g a h
+  pub insert-refused : {k : Refusal} → k ≡ kindOfFault (rowFault p R st T false v) → eqb (numberOf k) 0 ≡ false
+      → (m : ℕ) (a : Answer) → said a ≡ no k m → Stored p R (numbered m (insertRow p R T st v)) s s a
+  insert-refused {k} ek g m a h =
+      refused-at p R s b m (insertRow p R T st v) (no k 0) (insert-faulty p R T st v k (fault-told k (rowFault p R st T false v) ek g)) g a h
 
-    module _ (g : eqb (numberOf k) 0 ≡ true) where
-      insert-free : rowFault p R st T false v ≡ none
-      insert-free = first-passes k (rowFault p R st T false v) ek (row-told p R st T false v) g
+  module _ (free : rowFault p R st T false v ≡ none) where
+    pub row-addable : Addable p R s t v
+    unfolding apply
+    row-addable =
+        record {
+          known = f .known;
+          new = row-passes p R st T false v free .new;
+          laid = laid-of p R (withRows st (withRow (rowOf T v) (st .rows))) (valid-laid (with-row false free));
+        }
 
-      pub row-addable : Addable p R s t v
-      unfolding apply
-      row-addable =
-          record {
-            known = f .known;
-            new = row-passes p R st T false v insert-free .new;
-            laid = laid-of p R (withRows st (withRow (rowOf T v) (st .rows))) (valid-laid (with-row false insert-free));
-          }
-
-      pub row-inserted : (s₁ : List ℕ) → s₁ ≡ image p R (apply (added (rowOf T v)) st) → (m : ℕ) (a : Answer) → said a ≡ ok 1
-          → Stored p R (numbered m (insertRow p R T st v)) s s₁ a
-      unfolding applyAll
-      row-inserted s₁ e m a h = rw (insert-passes p R T st v insert-free) (record { answer = h; bytes = e })
+    pub row-inserted : {s₁ : List ℕ} → s₁ ≡ image p R (apply (added (rowOf T v)) st) → (m : ℕ) (a : Answer) → said a ≡ ok 1
+        → Stored p R (numbered m (insertRow p R T st v)) s s₁ a
+    unfolding applyAll
+    row-inserted e m a h = rw (insert-passes p R T st v free) (record { answer = h; bytes = e })
 
   -- ---- a row in place of the one with its key
 
-  module _ (k : Refusal) (ek : k ≡ kindOfFault (rowFault p R st T true v)) where
-    pub same-refused : eqb (numberOf k) 0 ≡ false → (m : ℕ) (a : Answer) → said a ≡ no k m → Stored p R (numbered m (sameKey p R T st v)) s s a
-    same-refused g m a h =
-        refused-at p R s b m (sameKey p R T st v) (no k 0) (same-faulty p R T st v k (fault-told k (rowFault p R st T true v) ek g)) g a h
+  pub same-refused : {k : Refusal} → k ≡ kindOfFault (rowFault p R st T true v) → eqb (numberOf k) 0 ≡ false
+      → (m : ℕ) (a : Answer) → said a ≡ no k m → Stored p R (numbered m (sameKey p R T st v)) s s a
+  same-refused {k} ek g m a h =
+      refused-at p R s b m (sameKey p R T st v) (no k 0) (same-faulty p R T st v k (fault-told k (rowFault p R st T true v) ek g)) g a h
 
-    module _ (g : eqb (numberOf k) 0 ≡ true) (n : Name) (en : n ≡ T .name) (key : Value) (ey : key ≡ keyOf T v) where
-      same-free : rowFault p R st T true v ≡ none
-      same-free = first-passes k (rowFault p R st T true v) ek (row-told p R st T true v) g
+  module _ (free : rowFault p R st T true v ≡ none) {n : Name} (en : n ≡ T .name) {key : Value} (ey : key ≡ keyOf T v) where
+    pub same-nothing : none ≡ placeOf (isRow n key) (st .rows) → (m : ℕ) (a : Answer) → said a ≡ ok 1 → Stored p R (numbered m (sameKey p R T st v)) s s a
+    same-nothing e m a h =
+        unchanged p R s b (numbered m (sameKey p R T st v)) (ok 1)
+        (ap (numbered m) (same-absent p R T st v free (rw (en, ey) at (place-missing (isRow n key) (st .rows) (sym e))))) a h
 
-      pub same-nothing : none ≡ placeOf (isRow n key) (st .rows) → (m : ℕ) (a : Answer) → said a ≡ ok 1 → Stored p R (numbered m (sameKey p R T st v)) s s a
-      same-nothing e m a h =
-          unchanged p R s b (numbered m (sameKey p R T st v)) (ok 1)
-          (ap (numbered m) (same-absent p R T st v same-free (rw (en, ey) at (place-missing (isRow n key) (st .rows) (sym e))))) a h
+    module _ {i : ℕ} (e : some i ≡ placeOf (isRow n key) (st .rows)) where
+      stored : i < length (st .rows)
+      stored = place-found (isRow n key) (st .rows) i (sym e) .0
 
-      module _ (i : ℕ) (e : some i ≡ placeOf (isRow n key) (st .rows)) where
-        stored : i < length (st .rows)
-        stored = place-found (isRow n key) (st .rows) i (sym e) .0
+      found : rowWith (st .rows) n key ≡ some (rowIn p R s i)
+      found = sym (place-found (isRow n key) (st .rows) i (sym e) .1) ∙ row-at p R s (laid-store p R s b) i stored
 
-        found : rowWith (st .rows) n key ≡ some (rowIn p R s i)
-        found = sym (place-found (isRow n key) (st .rows) i (sym e) .1) ∙ row-at p R s (laid-store p R s b) i stored
+      is-it : isRow n key (rowIn p R s i) ≡ true
+      is-it = find-in (isRow n key) (st .rows) (rowIn p R s i) found .1
 
-        is-it : isRow n key (rowIn p R s i) ≡ true
-        is-it = find-in (isRow n key) (st .rows) (rowIn p R s i) found .1
+      pub row-replaceable : Replaceable p R s t i v
+      unfolding apply
+      row-replaceable =
+          record {
+            row = record { known = f .known; stored = stored; of = name-is _ _ (and-left _ _ is-it) ∙ en };
+            same = rw ey at (and-right (ofTable n (rowIn p R s i)) (same (rowIn p R s i .key) key) is-it);
+            laid = laid-of p R (withRows st (withRow (rowOf T v) (st .rows))) (valid-laid (with-row true free));
+          }
 
-        pub row-replaceable : Replaceable p R s t i v
-        unfolding apply
-        row-replaceable =
-            record {
-              row = record { known = f .known; stored = stored; of = name-is _ _ (and-left _ _ is-it) ∙ en };
-              same = rw ey at (and-right (ofTable n (rowIn p R s i)) (same (rowIn p R s i .key) key) is-it);
-              laid = laid-of p R (withRows st (withRow (rowOf T v) (st .rows))) (valid-laid (with-row true same-free));
-            }
-
-        pub row-replaced : (s₁ : List ℕ) → s₁ ≡ image p R (apply (replaced (rowIn p R s i) (rowOf T v)) st) → (m : ℕ) (a : Answer) → said a ≡ ok 1
-            → Stored p R (numbered m (sameKey p R T st v)) s s₁ a
-        unfolding applyAll
-        row-replaced s₁ q m a h = rw (same-passes p R T st v (rowIn p R s i) same-free (rw (en, ey) at found)) (record { answer = h; bytes = q })
+      pub row-replaced : {s₁ : List ℕ} → s₁ ≡ image p R (apply (replaced (rowIn p R s i) (rowOf T v)) st) → (m : ℕ) (a : Answer) → said a ≡ ok 1
+          → Stored p R (numbered m (sameKey p R T st v)) s s₁ a
+      unfolding applyAll
+      row-replaced q m a h = rw (same-passes p R T st v (rowIn p R s i) free (rw (en, ey) at found)) (record { answer = h; bytes = q })
 
   -- ---- the old key's row goes, and then an insert
 
@@ -237,19 +234,23 @@ module _ (p : Profile) (R : ℕ) (s : List ℕ) (b : Store p R s) (t : ℕ) (row
     abbrev cs : List Change
     cs = removalsIn p R s t (old ∷ [])
 
-    pub referenced-kept : (r : Referrer) → r .found ≡ true → (n : Name) → n ≡ T .name → (ks : List Value) → ks ≡ old ∷ [] → referrerOf r ≡ rowReferenced (st .rows) n ks (st .tables)
+    -- the references that the code looks for, by the table's name and the one key
+    pub asked-for : {o : Option Carried} {n : Name} → n ≡ T .name → {ks : List Value} → ks ≡ old ∷ [] → o ≡ rowReferenced (st .rows) n ks (st .tables)
+        → o ≡ rowReferenced (st .rows) (T .name) (old ∷ []) (st .tables)
+    asked-for en eks e = rw (en, eks) at e
+
+    pub referenced-kept : (r : Referrer) → r .found ≡ true → referrerOf r ≡ rowReferenced (st .rows) (T .name) (old ∷ []) (st .tables)
         → (m : ℕ) (a : Answer) → said a ≡ noCarrying RowReferenced m (carriedBy (textBytes (r .table)) (r .column) (held (r .key)))
         → Stored p R (numbered m (otherKey p R T st q)) s s a
-    referenced-kept r w n en ks eks e m a h =
+    referenced-kept r w e m a h =
         let x : Carried = carriedBy (textBytes (r .table)) (r .column) (held (r .key)) in
-        let y : rowReferenced (st .rows) (T .name) (old ∷ []) (st .tables) ≡ some x = sym (rw (w, en, eks) at e) in
-        refused-at p R s b m (otherKey p R T st q) (noCarrying RowReferenced 0 x) (other-referenced p R T st q x y) refl a h
+        refused-at p R s b m (otherKey p R T st q) (noCarrying RowReferenced 0 x) (other-referenced p R T st q x (sym (rw w at e))) refl a h
 
-    module _ (r : Referrer) (w : r .found ≡ false) (n : Name) (en : n ≡ T .name) (ks : List Value) (eks : ks ≡ old ∷ []) (er : referrerOf r ≡ rowReferenced (st .rows) n ks (st .tables))
-        (s₁ : List ℕ) (e₁ : Removes p R s t (old ∷ []) s₁) where
-      unreferenced : rowReferenced (st .rows) (T .name) (old ∷ []) (st .tables) ≡ none
-      unreferenced = sym (rw (w, en, eks) at er)
+    pub no-reference : (r : Referrer) → r .found ≡ false → referrerOf r ≡ rowReferenced (st .rows) (T .name) (old ∷ []) (st .tables)
+        → rowReferenced (st .rows) (T .name) (old ∷ []) (st .tables) ≡ none
+    no-reference r w e = sym (rw w at e)
 
+    module _ (unreferenced : rowReferenced (st .rows) (T .name) (old ∷ []) (st .tables) ≡ none) {s₁ : List ℕ} (e₁ : Removes p R s t (old ∷ []) s₁) where
       gone-state : applyAll cs st ≡ withRows st (keep (stays (T .name) (old ∷ [])) (st .rows))
       unfolding removalsIn
       gone-state = removals-come (old ∷ []) (T .name) st
@@ -279,7 +280,7 @@ module _ (p : Profile) (R : ℕ) (s : List ℕ) (b : Store p R s) (t : ℕ) (row
             normal = f .normal;
           }
 
-      module _ (m : ℕ) (a : Answer) (s₂ : List ℕ) (h : Stored p R (numbered m (insertRow p R (tableIn p R s₁ t) (parse p R s₁) v)) s₁ s₂ a) where
+      module _ (m : ℕ) {a : Answer} {s₂ : List ℕ} (h : Stored p R (numbered m (insertRow p R (tableIn p R s₁ t) (parse p R s₁) v)) s₁ s₂ a) where
         abbrev after : Outcome
         after = insertRow p R T (applyAll cs st) v
 
@@ -324,7 +325,7 @@ module _ (p : Profile) (R : ℕ) (s : List ℕ) (b : Store p R s) (t : ℕ) (row
         pub again-accepted : eqb (numberOf (a .kind)) 0 ≡ true → Stored p R (numbered m (otherKey p R T st q)) s s₂ a
         again-accepted g = accepted-by fault refl (row-told p R (applyAll cs st) T false v) g
 
-        module _ (went : Bool) (eg : went ≡ not (isNil cs)) (x : Answer) (ex : said x ≡ withGone went (said a)) where
+        module _ {went : Bool} (eg : went ≡ not (isNil cs)) (x : Answer) (ex : said x ≡ withGone went (said a)) where
           refused-by : (o : Option Refusal) → fault ≡ o → eqb (numberOf (a .kind)) 0 ≡ false → Stored p R (numbered m (otherKey p R T st q)) s s₂ x
           unfolding applyAll
           refused-by none e g =
@@ -348,7 +349,7 @@ module _ (p : Profile) (R : ℕ) (s : List ℕ) (b : Store p R s) (t : ℕ) (row
 
     -- ---- either
 
-    module _ (key : Value) (ey : key ≡ keyOf T v) (m : ℕ) (s₁ : List ℕ) (a : Answer) where
+    module _ {key : Value} (ey : key ≡ keyOf T v) (m : ℕ) {s₁ : List ℕ} {a : Answer} where
       pub pair-with-same : same old key ≡ true → Stored p R (numbered m (sameKey p R T st v)) s s₁ a → Stored p R (numbered m (pair p R T st q)) s s₁ a
       pair-with-same g h = rw (pair-same p R T st q (rw ey at g)) h
 

@@ -88,7 +88,10 @@ returns c =
     let a = b .args in
     let o = c .before .before .before .before .before .before .compare-named in
     let f = c .before .before .before .before .first-reference in (
-      table-refers (a .p) (a .places) (a .s .now) _ (turn .before .loop .i) (turn .before .loop .inv) (within turn) _ (c .before .before .before .before .before .before .before .table-record .ensures) _ _
+      table-refers (a .p) (a .places) (a .s .now) _ (turn .before .loop .i) (turn .before .loop .inv) (within turn) _
+          (c .before .before .before .before .before .before .before .table-record .ensures)
+          _
+          _
           (not-same (o .result) _ (o .ensures) (c .before .before .before .before .before .match .keys2))
           (answer-is (c .before .before .j .given .1) (f .ensures))
           (c .read-name .ensures .0),

@@ -1,28 +1,38 @@
 -- `store::reads::get` meets its contract. Assumes nothing.
 use mathlib.Core.Path.{_≡_, ap, _∙_}
 use mathlib.Core.Option.{some}
-use mathlib.Core.List.{List, []}
-use Prim.Native.Nat.{ℕ}
-use native.Mathlib.Omega.{arith}
+use mathlib.Core.List.{List}
+use Prim.Native.Nat.{ℕ, _<_}
 use lib.ListN.{length, getD}
 use borrow.Author.Needs.{needs}
 use Rattle.values.specs.Cell.{nameWidth}
 use Rattle.values.specs.Meaning.{textBytes, meaning}
 use Rattle.rules.specs.State.{isNamed}
-use Rattle.rules.specs.Layout.{lists, parse}
+use Rattle.rules.specs.Layout.{parse}
 use Rattle.laid.specs.Catalog.{placeOf}
 use Rattle.checks.proofs.Checking.{key-of-found}
-use Rattle.laid.proofs.Columns.{record-least}
-use Rattle.store.proofs.Lookups.{key-nowhere}
+use Rattle.store.proofs.Lookups.{table-known, key-nowhere}
 use Rattle.store.proofs.References.{answer-is}
-use Rattle.laid.proofs.Searching.{found-within, table-bytes-at}
-use Rattle.laid.proofs.Stores.{held-inside, held-catalog}
+use Rattle.store.proofs.TableAt.{table-among, record-asked, key-fits}
+use Rattle.laid.proofs.Stores.{held-catalog}
 use Rattle.store.proofs.reads.get.Statement.{statement}
 use Rattle.store.proofs.reads.get.Tie as tie
 
--- the place that is found
-place : (c : tie.After-t) → let a = c .before .before .before .before .args in some (c .t .given .0 .0) ≡ placeOf (isNamed (textBytes (a .name))) ((parse (a .p) (a .places) (a .s .now)) .tables)
+-- where the function began, and the place that is found
+abbrev start : tie.After-t → tie.Start
+start c = c .before .before .before .before
+
+place : (c : tie.After-t) →
+    let a = (start c) .args in
+    some (c .t .given .0 .0) ≡ placeOf (isNamed (textBytes (a .name))) ((parse (a .p) (a .places) (a .s .now)) .tables)
 place c = answer-is (c .t .given .1) (c .before .before .get-table .ensures)
+
+known : (c : tie.After-t) →
+    let a = (start c) .args in
+    c .t .given .0 .0 < length ((parse (a .p) (a .places) (a .s .now)) .tables)
+known c =
+    let a = (start c) .args in
+    table-known (a .p) (a .places) (a .s .now) (textBytes (a .name)) (c .t .given .0 .0) (place c)
 
 get-table-requires : tie.Need-get-table-requires
 get-table-requires c κs =
@@ -37,31 +47,25 @@ enum-known-t c = search needs
 
 table-record-requires : tie.Need-table-record-requires
 table-record-requires c κs =
-    let b = c .before .before .before .before .before in
-    let a = b .args in (
-      held-inside (a .p) (a .places) (a .s .now) (b .pre .0),
-      found-within (a .p) (a .places) (a .s .now) (textBytes (a .name)) (c .before .t .given .0 .0) (place (c .before)),
-    )
+    let f = c .before in
+    record-asked (start f .pre .0) (f .t .given .0 .0) (known f)
 
 key-column-requires : tie.Need-key-column-requires
 key-column-requires c κs =
     let f = c .before .before in
-    let b = f .before .before .before .before in
-    let a = b .args in
-    let t = f .t .given .0 .0 in
-    let h = found-within (a .p) (a .places) (a .s .now) (textBytes (a .name)) t (place f) in
-    omega (arith, ap length (c .table-record .ensures), record-least (a .p) (getD ((lists (a .p) (a .places) (a .s .now)) .schemas) t []) (table-bytes-at (a .p) (a .places) (a .s .now) t h (held-catalog (a .p) (a .places) (a .s .now) (b .pre .0))))
+    key-fits (start f .pre .0) (f .t .given .0 .0) (known f) (c .table-record .ensures)
 
 find-row-requires : tie.Need-find-row-requires
 find-row-requires c κs =
     let f = c .before .before .before in
-    let b = f .before .before .before .before in
+    let b = start f in
     let a = b .args in
     let t = f .t .given .0 .0 in (
       b .pre .0,
-      key-of-found (a .p) (a .places) (a .s .now) (b .pre .0) t (found-within (a .p) (a .places) (a .s .now) (textBytes (a .name)) t (place f)) (c .key-column .result)
+      key-of-found (a .p) (a .places) (a .s .now) (b .pre .0) t (table-among (a .p) (a .places) (a .s .now) t (known f)) (c .key-column .result)
           (c .key-column .ensures ∙ ap (λ (r : List ℕ). getD r nameWidth 0) (c .before .table-record .ensures))
-          (textBytes (a .name)) (place f),
+          (textBytes (a .name))
+          (place f),
       b .pre .1,
       b .pre .2,
     )

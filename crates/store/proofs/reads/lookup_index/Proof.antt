@@ -15,7 +15,9 @@ use Rattle.store.proofs.reads.lookup_index.Statement.{statement}
 use Rattle.store.proofs.reads.lookup_index.Tie as tie
 
 -- the place that is found
-place : (c : tie.After-t) → let a = c .before .before .before .before .before .args in some (c .t .given .0 .0) ≡ placeOf (isNamed (textBytes (a .name))) ((parse (a .p) (a .places) (a .s .now)) .tables)
+place : (c : tie.After-t) →
+    let a = c .before .before .before .before .before .args in
+    some (c .t .given .0 .0) ≡ placeOf (isNamed (textBytes (a .name))) ((parse (a .p) (a .places) (a .s .now)) .tables)
 place c = answer-is (c .t .given .1) (c .before .before .get-table .ensures)
 
 get-table-requires : tie.Need-get-table-requires

@@ -1,54 +1,74 @@
 -- `store::rows::remove_key` meets its contract. Assumes nothing.
-use mathlib.Core.Path.{sym, ap, _∙_}
-use native.Mathlib.Omega.{arith}
-use Rattle.values.specs.Cell.{readName}
+use mathlib.Core.Path.{_≡_}
+use mathlib.Core.Option.{none, some}
+use borrow.Author.Needs.{needs}
 use Rattle.values.specs.Meaning.{textBytes, meaning}
-use Rattle.checks.proofs.Fitting.{key-of-table}
+use Rattle.rules.specs.State.{isRow}
+use Rattle.rules.specs.Layout.{parse}
+use Rattle.laid.specs.Catalog.{placeOf}
+use Rattle.laid.specs.Row.{tableIn}
 use Rattle.store.proofs.KeysRemoved.{row-its, key-gone, key-absent}
 use Rattle.store.proofs.References.{answer-is}
-use Rattle.laid.proofs.RowFacts.{start-table, start-least, start-name}
-use Rattle.laid.proofs.Stores.{held-inside}
-use borrow.Author.Needs.{needs}
+use Rattle.store.proofs.TableAt.{record-asked, name-fits, key-fits, its-name, its-key}
 use Rattle.store.proofs.rows.remove_key.Statement.{statement}
 use Rattle.store.proofs.rows.remove_key.Tie as tie
+
+-- where the function began, and where it had the table's name
+abbrev start : tie.After-read-name → tie.Start
+start c = c .before .before .before .before
+
+abbrev read : tie.After-find-row → tie.After-read-name
+read c = c .before .before .before .before .before
+
+named : (c : tie.After-read-name) →
+    let a = (start c) .args in
+    textBytes (c .read-name .result) ≡ (tableIn (a .p) (a .places) (a .s .now) (a .t)) .name
+named c =
+    let b = start c in
+    its-name (b .pre .0) (b .args .t) (b .pre .1) (c .before .table-record .ensures) (c .read-name .ensures .0)
+
+-- no row has the key, or the one at place i
+absent : (c : tie.After-enum-told) →
+    let d = read (c .before .before) in
+    let a = (start d) .args in
+    none ≡ placeOf (isRow (textBytes (d .read-name .result)) (meaning (a .key))) ((parse (a .p) (a .places) (a .s .now)) .rows)
+absent c = answer-is (c .enum-told .given .1) (c .before .before .find-row .ensures)
+
+found : (c : tie.After-i) →
+    let d = read (c .before .before) in
+    let a = (start d) .args in
+    some (c .i .given .0 .0) ≡ placeOf (isRow (textBytes (d .read-name .result)) (meaning (a .key))) ((parse (a .p) (a .places) (a .s .now)) .rows)
+found c = answer-is (c .i .given .1) (c .before .before .find-row .ensures)
 
 table-record-requires : tie.Need-table-record-requires
 table-record-requires c κs =
     let b = c .before .before in
-    let a = b .args in
-    (held-inside (a .p) (a .places) (a .s .now) (b .pre .0), start-table (a .p) (a .places) (a .s .now) (b .pre .0) (a .t) (b .pre .1))
+    record-asked (b .pre .0) (b .args .t) (b .pre .1)
 
 read-name-requires : tie.Need-read-name-requires
 read-name-requires c κs =
     let b = c .before .before .before in
-    let a = b .args in
-    let r = c .table-record in
-    omega (arith, start-least (a .p) (a .places) (a .s .now) (b .pre .0) (a .t) (b .pre .1) (r .result .now) (r .ensures))
+    name-fits (b .pre .0) (b .args .t) (b .pre .1) (c .table-record .ensures)
 
 table-record-requires-2 : tie.Need-table-record-requires-2
 table-record-requires-2 c κs =
-    let b = c .before .before .before .before .before in
-    let a = b .args in
-    (held-inside (a .p) (a .places) (a .s .now) (b .pre .0), start-table (a .p) (a .places) (a .s .now) (b .pre .0) (a .t) (b .pre .1))
+    let b = start (c .before) in
+    record-asked (b .pre .0) (b .args .t) (b .pre .1)
 
 key-column-requires : tie.Need-key-column-requires
 key-column-requires c κs =
-    let b = c .before .before .before .before .before .before in
-    let a = b .args in
-    let r = c .table-record2 in
-    omega (arith, start-least (a .p) (a .places) (a .s .now) (b .pre .0) (a .t) (b .pre .1) (r .result .now) (r .ensures))
+    let b = start (c .before .before) in
+    key-fits (b .pre .0) (b .args .t) (b .pre .1) (c .table-record2 .ensures)
 
 find-row-requires : tie.Need-find-row-requires
 find-row-requires c κs =
-    let b = c .before .before .before .before .before .before .before .before in
-    let a = b .args in
-    let k = c .before .key-column in
-    let r2 = c .before .before .table-record2 in
-    let n = c .before .before .before .before .read-name in
-    let r = c .before .before .before .before .before .table-record in (
+    let k = c .before in
+    let d = k .before .before .before in
+    let b = start d in
+    let n = d .read-name .ensures in (
       b .pre .0,
-      key-of-table (a .p) (a .places) (a .s .now) (a .t) (b .pre .0) (b .pre .1) (r2 .result .now) (r2 .ensures) (textBytes (n .result)) (n .ensures .0 ∙ ap readName (r .ensures ∙ sym (r2 .ensures))) (k .result) (k .ensures),
-      n .ensures .1,
+      its-key (b .pre .0) (b .args .t) (b .pre .1) (k .before .table-record2 .ensures) (k .key-column .ensures) (d .before .table-record .ensures) (n .0),
+      n .1,
       b .pre .2,
     )
 
@@ -57,17 +77,10 @@ enum-known-i c = search needs
 
 remove-row-requires : tie.Need-remove-row-requires
 remove-row-requires c κs =
-    let i = c .before .before .i in
-    let f = c .before .before .before .before in
-    let n = f .before .before .before .before .before .read-name in
-    let r = f .before .before .before .before .before .before .table-record in
-    let b = f .before .before .before .before .before .before .before .before .before in
-    let a = b .args in (
-      b .pre .0,
-      row-its (a .p) (a .places) (a .s .now) (b .pre .0) (a .t) (b .pre .1) (textBytes (n .result)) (n .ensures .0 ∙ start-name (a .p) (a .places) (a .s .now) (b .pre .0) (a .t) (b .pre .1) (r .result .now) (r .ensures)) (meaning (a .key))
-          (i .given .0 .0)
-          (answer-is (i .given .1) (f .find-row .ensures)),
-    )
+    let i = c .before .before in
+    let d = read (i .before .before) in
+    let b = start d in
+    (b .pre .0, row-its (b .pre .0) (b .args .t) (b .pre .1) (named d) (meaning (b .args .key)) (found i))
 
 enum-told : tie.Need-enum-told
 enum-told c = search needs
@@ -77,31 +90,20 @@ same-length c = search needs
 
 returns : tie.Need-returns
 returns c =
-    let w = c .before .before .remove-row in
-    let i = c .before .before .before .before .before .i in
-    let f = c .before .before .before .before .before .before .before in
-    let n = f .before .before .before .before .before .read-name in
-    let r = f .before .before .before .before .before .before .table-record in
-    let b = f .before .before .before .before .before .before .before .before .before in
-    let a = b .args in
-    key-gone (a .p) (a .places) (a .s .now) (b .pre .0) (a .t) (b .pre .1) (textBytes (n .result)) (n .ensures .0 ∙ start-name (a .p) (a .places) (a .s .now) (b .pre .0) (a .t) (b .pre .1) (r .result .now) (r .ensures)) (meaning (a .key))
-    (i .given .0 .0)
-    (answer-is (i .given .1) (f .find-row .ensures))
-    (w .last .0)
-    (w .ensures)
+    let w = c .before .before in
+    let i = w .before .before .before in
+    let d = read (i .before .before) in
+    let b = start d in
+    key-gone (b .pre .0) (b .args .t) (b .pre .1) (named d) (meaning (b .args .key)) (found i) (w .remove-row .ensures)
 
 same-length-2 : tie.Need-same-length-2
 same-length-2 c = search needs
 
 returns-2 : tie.Need-returns-2
 returns-2 c =
-    let f = c .before .before in
-    let n = f .before .before .before .before .before .read-name in
-    let r = f .before .before .before .before .before .before .table-record in
-    let b = f .before .before .before .before .before .before .before .before .before in
-    let a = b .args in
-    key-absent (a .p) (a .places) (a .s .now) (b .pre .0) (a .t) (b .pre .1) (textBytes (n .result)) (n .ensures .0 ∙ start-name (a .p) (a .places) (a .s .now) (b .pre .0) (a .t) (b .pre .1) (r .result .now) (r .ensures)) (meaning (a .key))
-    (answer-is (c .enum-told .given .1) (f .find-row .ensures))
+    let d = read (c .before .before) in
+    let b = start d in
+    key-absent (b .pre .0) (b .args .t) (b .pre .1) (named d) (meaning (b .args .key)) (absent c)
 
 pub remove-key-spec : {M : Type 1} → statement M
 remove-key-spec =
