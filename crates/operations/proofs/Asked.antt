@@ -9,9 +9,9 @@ use mathlib.Core.Option.{Option, none, some}
 use lib.ListN.{length, getD, length-map, length-take, length-drop}
 use Rattle.values.specs.Basic.{isSome, maybe}
 use Rattle.values.specs.Value.{Value, text}
-use Rattle.values.specs.Meaning.{textBytes, held, Packed}
+use Rattle.values.specs.Meaning.{textBytes, held}
 use Rattle.values.specs.Counted.{countAt}
-use Rattle.values.specs.Read.{Read, got, nameAt, nameRead, NameRead, CellRead}
+use Rattle.values.specs.Read.{Read, got, NameRead, CellRead}
 use Rattle.values.specs.declared.value.Cell.{Cell}
 use Rattle.values.specs.declared.value.Text.{Text}
 use Rattle.values.specs.declared.read.ReadCell.{ReadCell}
@@ -37,7 +37,7 @@ use Rattle.operations.specs.Told.{Acted, Replied}
 use Rattle.records.specs.Walked.{walkedAs}
 use Rattle.records.proofs.Walking.{unknown}
 use Rattle.checks.proofs.KeysRead.{values-end, values-got, values-broken}
-use Rattle.operations.proofs.Operands.{named-then, unnamed}
+use Rattle.operations.proofs.Operands.{named-then, unnamed, keys-read}
 use Rattle.operations.proofs.ValuesFrom.{was-got, got-gives, parted, byte-there, values-there, values-inside}
 
 -- ---- keys found, one by one
@@ -111,10 +111,6 @@ module _ (p : Profile) (R : ℕ) (st : State) (q : Request) (a : Answer) where
 -- ---- what stands behind a name, where nothing broke
 
 module _ (s : List ℕ) (from : ℕ) (nm : ReadName) (e : NameRead s from nm) where
-  pub keys-unbroken : (make : List ℕ → List Value → Request) (x : ℕ) → nm ≡ Bad x → isGot (keysAt s make from) ≡ true → ⊥
-  unfolding keysAt
-  keys-unbroken make x h g = unnamed s from nm e _ x h g
-
   pub lookup-unbroken : (x : ℕ) → nm ≡ Bad x → isGot (lookupAt s from) ≡ true → ⊥
   unfolding lookupAt
   lookup-unbroken x h g = unnamed s from nm e _ x h g
@@ -124,33 +120,12 @@ module _ (s : List ℕ) (from : ℕ) (nm : ReadName) (e : NameRead s from nm) wh
   scan-unbroken x h g = unnamed s from nm e _ x h g
 
   module _ (t : Text) (q : ℕ) (h : nm ≡ Named t q) where
-    pub name-proper : Packed t
-    name-proper = rw h at (e .proper)
-
-    -- a table and keys
-    module _ (make : List ℕ → List Value → Request) (g : isGot (keysAt s make from) ≡ true) where
-      keys-told : (q < length s) × (gotOr Names (keysAt s make from) ≡ make (textBytes t) (valuesFrom s (getD s q 0) (q + 1)))
-      unfolding keysAt
-      keys-told =
-          let d = named-then s from nm e (λ name a. andThen (valuesAt s a) (λ ks b. got (make name ks) b)) t q h in
-          let w = was-got (keysAt s make from) g in
-          let u = parted (valuesAt s q) _ (w .what) (w .end) (sym d ∙ w .is) in (
-            values-inside s q (u .first) (u .next) (u .is),
-            got-gives Names (keysAt s make from) (w .what) (w .end) (w .is)
-                ∙ sym (cc (u .then))
-                ∙ ap (make (textBytes t)) (sym (values-there s q (u .first) (u .next) (u .is) .0)),
-          )
-
-      pub keys-inside : q < length s
-      keys-inside = keys-told .0
-
-      pub keys-are : gotOr Names (keysAt s make from) ≡ make (textBytes t) (valuesFrom s (getD s q 0) (q + 1))
-      keys-are = keys-told .1
-
     module _ (p : Profile) (R : ℕ) (st : State) (a : Answer) where
       pub get-told : isGot (keysAt s Get from) ≡ true → (c count : ℕ) → count ≡ getD s q 0 → c ≡ length (found (st .rows) (textBytes t) (valuesFrom s count (q + 1))) → said a ≡ ok c
           → said a ≡ (act p R st (gotOr Names (keysAt s Get from))) .reply
-      get-told g c count ec k e = get-answered p R st (gotOr Names (keysAt s Get from)) a (textBytes t) (valuesFrom s (getD s q 0) (q + 1)) (keys-are Get g) c e (rw ec at k)
+      get-told g c count ec k i =
+          let ks = valuesFrom s count (q + 1) in
+          get-answered p R st (gotOr Names (keysAt s Get from)) a (textBytes t) ks (keys-read s from nm e t q h Get g count ec) c i k
 
     -- a table, a column number and values
     module _ (g : isGot (lookupAt s from) ≡ true) where
@@ -240,7 +215,8 @@ module _ (s : List ℕ) (p : Profile) (k from : ℕ) where
   is-names e = rw e
 
   -- a reading that did not break says one of the nine
-  is-known : isGot (operandsAt s p k from) ≡ true → (k ≡ 1 → ⊥) → (k ≡ 2 → ⊥) → (k ≡ 3 → ⊥) → (k ≡ 4 → ⊥) → (k ≡ 5 → ⊥) → (k ≡ 6 → ⊥) → (k ≡ 7 → ⊥) → (k ≡ 8 → ⊥) → (k ≡ 9 → ⊥) → ⊥
+  is-known : isGot (operandsAt s p k from) ≡ true → (k ≡ 1 → ⊥) → (k ≡ 2 → ⊥) → (k ≡ 3 → ⊥) → (k ≡ 4 → ⊥) → (k ≡ 5 → ⊥)
+      → (k ≡ 6 → ⊥) → (k ≡ 7 → ⊥) → (k ≡ 8 → ⊥) → (k ≡ 9 → ⊥) → ⊥
   unfolding walkedAs
   is-known h a b c d e f g i j =
       let w = was-got (operandsAt s p k from) h in

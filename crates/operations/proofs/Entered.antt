@@ -3,7 +3,7 @@
 use Prim.Native.Nat.{ℕ, zero, suc, _<_}
 use native.Mathlib.Omega.{arith}
 use mathlib.Core.Path.{_≡_, refl, sym, ap, _∙_}
-use mathlib.Core.Bool.{true}
+use mathlib.Core.Bool.{true, cond}
 use mathlib.Core.List.{List, [], _∷_, map}
 use mathlib.Core.Option.{Option, none, some, Option·map}
 use lib.Dec.{eqb, ltb}
@@ -23,20 +23,20 @@ use Rattle.rules.specs.Step.{Change, Outcome, applyAll, lookup, act, step}
 use Rattle.laid.specs.Store.{Store, Stored}
 use Rattle.store.proofs.Outcomes.{unchanged}
 use Rattle.operations.specs.Got.{isGot, gotOr}
-use Rattle.records.specs.Reading.{times, flagged, byteAt, byteFrom}
+use Rattle.records.specs.Reading.{andThen, times, flagged, byteAt, byteFrom}
 use Rattle.records.specs.Record.{valuesAt, columnAt, createAt, dropAt, mapAt, insertAt, pairAt, updateAt, keysAt, lookupAt, scanAt, operandsAt, requestOf}
 use Rattle.operations.specs.Told.{Acted, Replied, outcomeOf}
 use Rattle.records.specs.Walked.{walkedAs}
 use Rattle.records.specs.declared.record.Walked.{Walked}
 use Rattle.records.specs.declared.record.Walked.the-variants.{Ends, Breaks}
-use Rattle.operations.proofs.ValuesFrom.{was-got, got-is, got-gives, unbroken, parted, byte-there, from-there}
+use Rattle.operations.proofs.ValuesFrom.{was-got, got-is, got-gives, unbroken, parted, then-is, then-first, then-next, byte-got, from-got}
 use Rattle.operations.proofs.Read.{Gives, gives, given, gives-either, gives-got, gives-broken, gives-then, gives-flagged, Any, any}
 
 -- f leaves it as it is
-abbrev Same : {A : Type 0} → (A → A) → A → Type 0
+abbrev pub Same : {A : Type 0} → (A → A) → A → Type 0
 Same f a = f a ≡ a
 
-gives-same : {A : Type 0} (f : A → A) (g : ℕ → Read A) (n at : ℕ) → ((b : ℕ) → Gives (Same f) (g b)) → Gives (Same (map f)) (times g n at)
+pub gives-same : {A : Type 0} (f : A → A) (g : ℕ → Read A) (n at : ℕ) → ((b : ℕ) → Gives (Same f) (g b)) → Gives (Same (map f)) (times g n at)
 unfolding times
 gives-same f g zero at h = gives-got (Same (map f)) [] at refl
 gives-same f g (suc n) at h =
@@ -55,7 +55,7 @@ module _ (s : List ℕ) where
       gives-then Any (Same (map normalised)) (byteAt s at) _ (any (byteAt s at))
       (λ n b e. gives-same normalised (valueAt s) n b same-value)
 
-  same-column : (at : ℕ) → Gives (Same enteredColumn) (columnAt s at)
+  pub same-column : (at : ℕ) → Gives (Same enteredColumn) (columnAt s at)
   unfolding columnAt
   same-column at =
       gives-then Any (Same enteredColumn) (nameAt s at) _ (any (nameAt s at))
@@ -216,29 +216,31 @@ record Says (rec : List ℕ) (p : Profile) : Type 0 where
   all : requestOf rec p ≡ got what end
   operands : operandsAt rec p (getD rec 1 0) 2 ≡ got what end
 
-says : (rec : List ℕ) (p : Profile) → isGot (requestOf rec p) ≡ true → Says rec p
-unfolding requestOf
-says rec p h =
-    let w = was-got (requestOf rec p) h in
-    let x = parted (byteFrom 1 1 rec 0) _ (w .what) (w .end) (w .is) in
-    let t = from-there 1 1 rec 0 (x .first) (x .next) (x .is) in
-    let y = parted (byteAt rec (x .next)) _ (w .what) (w .end) (x .then) in
-    let b = byte-there rec (x .next) (y .first) (y .next) (y .is) in
-    let z = parted (operandsAt rec p (y .first) (y .next)) _ (w .what) (w .end) (y .then) in
-    let u = unbroken (ltb (z .next) (length rec)) (z .next) (got (z .first) (z .next)) (w .what) (w .end) (z .then) in
-    let one : 1 ≡ x .next = omega (arith, t .next) in
-    let two : 2 ≡ y .next = omega (arith, b .next) in
-    record {
-      what = w .what;
-      end = w .end;
-      all = w .is;
-      operands =
-          ap (λ (j : ℕ). operandsAt rec p (getD rec j 0) 2) one
-          ∙ ap (λ (k : ℕ). operandsAt rec p k 2) (b .is)
-          ∙ ap (operandsAt rec p (y .first)) two
-          ∙ z .is
-          ∙ u .1;
-    }
+module _ (rec : List ℕ) (p : Profile) where
+  abbrev last : Request → ℕ → Read Request
+  last q end = cond (ltb end (length rec)) (broken end) (got q end)
+
+  abbrev numbered : ℕ → ℕ → Read Request
+  numbered k b = andThen (operandsAt rec p k b) last
+
+  abbrev versioned : ℕ → ℕ → Read Request
+  versioned v a = andThen (byteAt rec a) numbered
+
+  module _ (h : isGot (requestOf rec p) ≡ true) where
+    -- behind a version byte and the operation's number
+    request-then : requestOf rec p ≡ numbered (getD rec 1 0) 2
+    unfolding requestOf
+    request-then =
+        let v = from-got 1 1 rec 0 (then-first (byteFrom 1 1 rec 0) versioned h) .is in
+        let k = byte-got rec 1 (then-first (byteAt rec 1) numbered (then-next (byteFrom 1 1 rec 0) versioned h (getD rec 0 0) 1 v)) .1 in
+        then-is (byteFrom 1 1 rec 0) versioned (getD rec 0 0) 1 v ∙ then-is (byteAt rec 1) numbered (getD rec 1 0) 2 k
+
+    says : Says rec p
+    says =
+        let w = was-got (requestOf rec p) h in
+        let z = parted (operandsAt rec p (getD rec 1 0) 2) last (w .what) (w .end) (sym request-then ∙ w .is) in
+        let u = unbroken (ltb (z .next) (length rec)) (z .next) (got (z .first) (z .next)) (w .what) (w .end) (z .then) in
+        record { what = w .what; end = w .end; all = w .is; operands = z .is ∙ u .1 }
 
 module _ (p : Profile) (rec : List ℕ) (r : Walked) (e : r ≡ walkedAs (requestOf rec p)) where
   module _ (n : ℕ) (h : r ≡ Ends n) (k : ℕ) (ek : k ≡ getD rec 1 0) where

@@ -138,6 +138,12 @@ module _ (p : Profile) (R : ℕ) (s₀ : List ℕ) (t : ℕ) (rec : List ℕ) (m
         remains = remains-start (insertRow p R T₀) (parse p R s₀) whole;
       }
 
+  -- the turn of the row at q, which left s₁ and answered a
+  pub record Turned (left q i : ℕ) (s₁ : List ℕ) (a : Answer) : Type 0 where
+    pub long : length s₁ ≡ length s₀
+    pub stops : eqb (numberOf (a .kind)) 0 ≡ false → Stored p R (inTurn (insertRow p R T₀) (parse p R s₀) 0 whole) s₀ s₁ a
+    pub next : eqb (numberOf (a .kind)) 0 ≡ true → (w : Walked) (y : ℕ) → w ≡ walkedAs (valuesAt rec q) → w ≡ Ends y → Inserting s₁ (left - 1) y (i + 1)
+
   module _ (s : List ℕ) (left q i : ℕ) (x : Inserting s left q i) where
     pub inserting-end : left ≤ 0 → (a : Answer) → said a ≡ ok n → Stored p R (inTurn (insertRow p R T₀) (parse p R s₀) 0 whole) s₀ s a
     inserting-end l a h =
@@ -204,14 +210,14 @@ module _ (p : Profile) (R : ℕ) (s₀ : List ℕ) (t : ℕ) (rec : List ℕ) (m
             to-come : Remains (insertRow p R T₀) (parse p R s₀) whole (parse p R s) i (full (here .values) ∷ map full (rowsAt rec (left - 1) (here .next)))
             to-come = subst (λ (vss : List (List Value)). Remains (insertRow p R T₀) (parse p R s₀) whole (parse p R s) i (map full vss)) (here .all) (x .remains)
 
-            pub turn-long : length s₁ ≡ length s₀
+            turn-long : length s₁ ≡ length s₀
             turn-long = row-long p R s (x .store) t (x .known) row inserting-full i s₁ a h ∙ x .long
 
-            pub inserting-stops : eqb (numberOf (a .kind)) 0 ≡ false → Stored p R (inTurn (insertRow p R T₀) (parse p R s₀) 0 whole) s₀ s₁ a
+            inserting-stops : eqb (numberOf (a .kind)) 0 ≡ false → Stored p R (inTurn (insertRow p R T₀) (parse p R s₀) 0 whole) s₀ s₁ a
             inserting-stops g =
                 stored-stops p R (insertRow p R T₀) s₀ whole s i (full (here .values)) (map full (rowsAt rec (left - 1) (here .next))) to-come s₁ a its-turn g
 
-            pub inserting-next : eqb (numberOf (a .kind)) 0 ≡ true → (w : Walked) (y : ℕ) → w ≡ walkedAs (valuesAt rec q) → w ≡ Ends y → Inserting s₁ (left - 1) y (i + 1)
+            inserting-next : eqb (numberOf (a .kind)) 0 ≡ true → (w : Walked) (y : ℕ) → w ≡ walkedAs (valuesAt rec q) → w ≡ Ends y → Inserting s₁ (left - 1) y (i + 1)
             inserting-next g w y ew ey =
                 let d : Ends (here .next) ≡ Ends y = ends-there ∙ sym ew ∙ ey in
                 let k : here .next ≡ y = cc d in
@@ -228,3 +234,6 @@ module _ (p : Profile) (R : ℕ) (s₀ : List ℕ) (t : ℕ) (rec : List ℕ) (m
                       stored-next p R (insertRow p R T₀) s₀ whole s i (full (here .values)) (map full (rowsAt rec (left - 1) (here .next))) to-come s₁ a its-turn g
                       (row-reads p R s (x .store) t (x .known) row inserting-full i s₁ a h ∙ ap (λ (o : Outcome). applyAll (o .changes) (parse p R s)) same-outcome);
                 })
+
+            pub inserting-turn : Turned left q i s₁ a
+            inserting-turn = record { long = turn-long; stops = inserting-stops; next = inserting-next }

@@ -1,13 +1,14 @@
 pub mod Read
 pub mod ValuesFrom
 pub mod Mapping
-pub mod SchemaWritten
 pub mod Pairs
 pub mod InTurn
 pub mod FullRows
+pub mod Naming
 pub mod Operands
 pub mod PairsWritten
 pub mod Asked
 pub mod Entered
+pub mod SchemaWritten
 pub mod Inserting
 pub mod InsertRead

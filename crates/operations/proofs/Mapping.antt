@@ -13,7 +13,7 @@ use lib.Seq.{drop-cons, take-suc-set, length-take-le}
 use borrow.Author.Tests.{le-leb, lt-leb, eq-eqb, ne-eqb, lt-ltb, le-ltb}
 use Rattle.values.specs.Basic.{any, nth, _orElse_}
 use Rattle.values.specs.Meaning.{held, ProperCell}
-use Rattle.values.specs.Read.{got, CellRead}
+use Rattle.values.specs.Read.{Read, got, CellRead}
 use Rattle.values.specs.Sorted.{All}
 use Rattle.values.specs.Value.{Value}
 use Rattle.values.specs.declared.read.ReadCell.the-variants.{Got, Broken}
@@ -41,7 +41,7 @@ use Rattle.records.specs.declared.record.Walked.the-variants.{Ends, Breaks}
 use Rattle.records.specs.declared.record.Walked.{Walked}
 use Rattle.checks.proofs.KeysRead.{values-end, values-got, values-broken}
 use Rattle.operations.proofs.Pairs.{all-more}
-use Rattle.operations.proofs.ValuesFrom.{was-got, got-is, got-gives, parted, headed, byte-there, from-there, values-there, values-inside}
+use Rattle.operations.proofs.ValuesFrom.{was-got, got-is, got-gives, parted, then-is, then-first, flagged-is, flagged-none, flagged-first, headed, byte-there, from-got, values-there, values-inside}
 use Rattle.records.proofs.Walking.{ends}
 
 -- ---- a part of the bytes, from i up to an end
@@ -99,40 +99,44 @@ times-bytes s (suc n) at xs e h l =
       omega (arith, i .1, t .next),
     )
 
+-- a count, and as many column numbers
+columns-there : (s : List ℕ) (at : ℕ) (xs : List ℕ) (e : ℕ) → columnsAt s at ≡ got xs e
+    → (xs ≡ take (getD s at 0) (drop (at + 1) s)) × (at + 1 + getD s at 0 ≤ length s)
+unfolding columnsAt
+columns-there s at xs e h =
+    let c = parted (byteAt s at) _ xs e h in
+    let d = byte-there s at (c .first) (c .next) (c .is) in
+    let t = times-bytes s (c .first) (c .next) xs e (c .then) (omega (arith, d .inside, d .next)) in
+    (rw (d .is, d .next) (t .0), rw (d .is, d .next) (t .1))
+
 module _ (s : List ℕ) (at : ℕ) (g : isGot (mapAt s at) ≡ true) where
-  -- a map: a count, and as many column numbers
+  abbrev listed : ℕ → ℕ → Read (Option (List ℕ))
+  listed x a = flagged (eqb x 1) (columnsAt s) a
+
+  flag-there : byteFrom 0 1 s at ≡ got (getD s at 0) (at + 1)
+  unfolding mapAt
+  flag-there = from-got 0 1 s at (then-first (byteFrom 0 1 s at) listed g) .is
+
+  map-then : mapAt s at ≡ listed (getD s at 0) (at + 1)
+  unfolding mapAt
+  map-then = then-is (byteFrom 0 1 s at) listed (getD s at 0) (at + 1) flag-there
+
+  -- a map
   pub map-given : getD s at 0 ≡ 1
       → (gotOr none (mapAt s at) ≡ some (take (getD s (at + 1) 0) (drop (at + 2) s))) × (at + 2 + getD s (at + 1) 0 ≤ length s)
-  unfolding mapAt flagged columnsAt
   map-given one =
-      let w = was-got (mapAt s at) g in
-      let p = parted (byteFrom 0 1 s at) _ (w .what) (w .end) (w .is) in
-      let b = from-there 0 1 s at (p .first) (p .next) (p .is) in
-      let f : flagged true (columnsAt s) (p .next) ≡ got (w .what) (w .end) =
-      subst (λ (t : Bool). flagged t (columnsAt s) (p .next) ≡ got (w .what) (w .end)) (eq-eqb (p .first) 1 (sym (b .is) ∙ one)) (p .then) in
-      let q = parted (columnsAt s (p .next)) _ (w .what) (w .end) f in
-      let c = parted (byteAt s (p .next)) _ (q .first) (q .next) (q .is) in
-      let d = byte-there s (p .next) (c .first) (c .next) (c .is) in
-      let e : c .next ≡ at + 2 = omega (arith, d .next, b .next) in
-      let n : c .first ≡ getD s (at + 1) 0 = sym (d .is) ∙ ap (λ (j : ℕ). getD s j 0) (sym (b .next)) in
-      let t = times-bytes s (c .first) (c .next) (q .first) (q .next) (c .then) (omega (arith, d .inside, d .next)) in
-      let o : w .what ≡ some (q .first) = cc (q .then) in (
-        got-gives none (mapAt s at) (w .what) (w .end) (w .is)
-            ∙ o
-            ∙ ap some (t .0 ∙ rw (e, n)),
-        omega (arith, t .1, e, n),
+      let b = eq-eqb (getD s at 0) 1 one in
+      let w = was-got (columnsAt s (at + 1)) (flagged-first (columnsAt s) (eqb (getD s at 0) 1) (at + 1) b (sym (ap isGot map-then) ∙ g)) in
+      let c = columns-there s (at + 1) (w .what) (w .end) (w .is) in
+      let two : at + 1 + 1 ≡ at + 2 = omega arith in (
+        got-gives none (mapAt s at) (some (w .what)) (w .end) (map-then ∙ flagged-is (columnsAt s) (eqb (getD s at 0) 1) (at + 1) (w .what) (w .end) b (w .is))
+            ∙ ap some (c .0 ∙ rw two),
+        omega (arith, c .1),
       )
 
   -- none
   pub map-none : (getD s at 0 ≡ 1 → ⊥) → gotOr none (mapAt s at) ≡ none
-  unfolding mapAt flagged
-  map-none other =
-      let w = was-got (mapAt s at) g in
-      let p = parted (byteFrom 0 1 s at) _ (w .what) (w .end) (w .is) in
-      let b = from-there 0 1 s at (p .first) (p .next) (p .is) in
-      let f : flagged false (columnsAt s) (p .next) ≡ got (w .what) (w .end) =
-      subst (λ (t : Bool). flagged t (columnsAt s) (p .next) ≡ got (w .what) (w .end)) (ne-eqb (p .first) 1 (λ e. other (b .is ∙ e))) (p .then) in
-      got-gives none (mapAt s at) (w .what) (w .end) (w .is) ∙ cc f
+  map-none other = got-gives none (mapAt s at) none (at + 1) (map-then ∙ flagged-none (columnsAt s) (eqb (getD s at 0) 1) (at + 1) (ne-eqb (getD s at 0) 1 other))
 
 module _ (s : List ℕ) (m : Map) where
   pub map-is : m .given ≡ true → mapOf s m ≡ some (take (m .count) (drop (m .at) s))

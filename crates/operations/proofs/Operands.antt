@@ -1,19 +1,19 @@
 -- The operands of a drop, a delete and an update, as the code reads them, and what an update comes to, case by case. Assumes nothing.
 use Prim.Native.Nat.{ℕ, _+_, _<_}
 use mathlib.Core.Path.{_≡_, sym, ap, _∙_, subst}
-use mathlib.Core.Bool.{Bool, true, false, cond, true≢false}
+use mathlib.Core.Bool.{Bool, true, false, cond}
 use mathlib.Core.List.{List, []}
 use mathlib.Core.Option.{none, some}
 use lib.Dec.{eqb}
 use lib.ListN.{length, getD}
 use Rattle.values.specs.Basic.{maybe, _orElse_}
 use Rattle.values.specs.Meaning.{textBytes, Packed}
-use Rattle.values.specs.Read.{Read, got, broken, nameAt, nameRead, NameRead, ProperName}
+use Rattle.values.specs.Read.{Read, got, nameAt, nameRead, NameRead, ProperName}
 use Rattle.values.specs.Value.{Value}
 use Rattle.values.specs.declared.read.ReadName.the-variants.{Named, Bad}
 use Rattle.values.specs.declared.read.ReadName.{ReadName}
 use Rattle.values.specs.declared.value.Text.{Text}
-use Rattle.rules.specs.Layout.{lists, parse, readTable}
+use Rattle.rules.specs.Layout.{parse}
 use Rattle.rules.specs.Refusal.{numberOf}
 use Rattle.rules.specs.Request.{Pair, Request, Drop, Update, Delete, Names, said, no}
 use Rattle.rules.specs.Rows.{risingFault, sizeFault}
@@ -28,33 +28,27 @@ use Rattle.laid.specs.Catalog.{placeOf}
 use Rattle.checks.specs.Faults.{faultOf}
 use Rattle.checks.specs.Keys.{valuesFrom}
 use Rattle.laid.specs.Row.{tableIn}
-use Rattle.laid.specs.Store.{LaidStore, Store, Stored}
+use Rattle.laid.specs.Store.{Store, Stored}
 use Rattle.checks.specs.declared.schema_fault.Fault.{Fault}
-use Rattle.laid.proofs.Finding.{place-found, place-missing}
-use Rattle.checks.proofs.Fitting.{table-is}
-use Rattle.store.proofs.KeysRemoved.{table-below}
+use Rattle.laid.proofs.Finding.{place-missing}
 use Rattle.store.proofs.Outcomes.{unchanged}
-use Rattle.laid.proofs.RowFacts.{table-there}
 use Rattle.operations.specs.Got.{isGot, gotOr}
 use Rattle.operations.specs.Mapped.{pairsAt}
 use Rattle.records.specs.Reading.{andThen, times, byteAt, byteFrom}
 use Rattle.records.specs.Record.{valuesAt, dropAt, pairAt, updateAt, keysAt}
 use Rattle.operations.specs.Told.{Acted}
-use Rattle.operations.proofs.ValuesFrom.{was-got, got-is, got-gives, parted, byte-there, from-there, values-there, values-inside}
+use Rattle.operations.proofs.Naming.{named-its}
+use Rattle.operations.proofs.ValuesFrom.{was-got, got-gives, never-broken, parted, then-is, then-first, then-next, from-there, byte-got, values-there, values-inside}
 
 -- ---- a name and then the rest: r is what was read of the name
 
 module _ (s : List ℕ) (at : ℕ) (r : ReadName) (e : NameRead s at r) where
   pub named-then : {B : Type 0} (f : List ℕ → ℕ → Read B) (t : Text) (n : ℕ) → r ≡ Named t n → andThen (nameAt s at) f ≡ f (textBytes t) n
-  unfolding andThen
-  named-then f t n h = let g : nameAt s at ≡ got (textBytes t) n = sym (e .is) ∙ ap nameRead h in rw g
+  named-then f t n h = then-is (nameAt s at) f (textBytes t) n (sym (e .is) ∙ ap nameRead h)
 
   -- a name that breaks breaks all
   pub unnamed : {B : Type 0} (f : List ℕ → ℕ → Read B) (x : ℕ) → r ≡ Bad x → isGot (andThen (nameAt s at) f) ≡ true → ⊥
-  unfolding andThen isGot
-  unnamed f x h g =
-      let b : nameAt s at ≡ broken x = sym (e .is) ∙ ap nameRead h in
-      true≢false (sym g ∙ ap (λ (w : Read (List ℕ)). isGot (andThen w f)) b)
+  unnamed f x h g = never-broken (nameAt s at) x (then-first (nameAt s at) f g) (sym (e .is) ∙ ap nameRead h)
 
   pub drop-unnamed : (x : ℕ) → r ≡ Bad x → isGot (dropAt s at) ≡ true → ⊥
   unfolding dropAt
@@ -104,31 +98,37 @@ module _ (s : List ℕ) (at : ℕ) (r : ReadName) (e : NameRead s at r) where
       keys-inside = keys-are .1
 
     -- ---- pairs
+    abbrev listed : ℕ → ℕ → Read Request
+    listed c a = andThen (times (pairAt s) c a) (λ qs b. got (Update (textBytes t) qs) b)
+
+    update-then : updateAt s at ≡ andThen (byteAt s n) listed
+    unfolding updateAt
+    update-then = named-then (λ name a. andThen (byteAt s a) (λ c b. andThen (times (pairAt s) c b) (λ qs d. got (Update name qs) d))) t n h
+
     module _ (g : isGot (updateAt s at) ≡ true) where
-      update-are : (gotOr Names (updateAt s at) ≡ Update (textBytes t) (pairsAt s (getD s n 0) (n + 1))) × (isGot (times (pairAt s) (getD s n 0) (n + 1)) ≡ true) × (n < length s)
-      unfolding updateAt pairsAt
-      update-are =
-          let d = named-then (λ name a. andThen (byteAt s a) (λ m b. andThen (times (pairAt s) m b) (λ qs c. got (Update name qs) c))) t n h in
-          let w = was-got _ (subst (λ (z : Read Request). isGot z ≡ true) d g) in
-          let b = parted (byteAt s n) _ (w .what) (w .end) (w .is) in
-          let k = byte-there s n (b .first) (b .next) (b .is) in
-          let q = parted (times (pairAt s) (b .first) (b .next)) _ (w .what) (w .end) (b .then) in
-          let l : w .what ≡ Update (textBytes t) (q .first) = cc (q .then) in
-          let z : times (pairAt s) (getD s n 0) (n + 1) ≡ got (q .first) (q .next) = rw (k .is, k .next) (q .is) in (
-            got-gives Names _ (w .what) (w .end) (d ∙ w .is) ∙ l ∙ ap (Update (textBytes t)) (sym (got-gives [] _ (q .first) (q .next) z)),
-            got-is _ (q .first) (q .next) z,
-            k .inside,
-          )
+      behind : isGot (andThen (byteAt s n) listed) ≡ true
+      behind = subst (λ (w : Read Request). isGot w ≡ true) update-then g
 
-      module _ (c : ℕ) (ec : c ≡ getD s n 0) where
-        pub update-read : gotOr Names (updateAt s at) ≡ Update (textBytes t) (pairsAt s c (n + 1))
-        update-read = update-are .0 ∙ ap (λ (j : ℕ). Update (textBytes t) (pairsAt s j (n + 1))) (sym ec)
-
-        pub pairs-got : isGot (times (pairAt s) c (n + 1)) ≡ true
-        pairs-got = ap (λ (j : ℕ). isGot (times (pairAt s) j (n + 1))) ec ∙ update-are .1
+      count-there : (n < length s) × (byteAt s n ≡ got (getD s n 0) (n + 1))
+      count-there = byte-got s n (then-first (byteAt s n) listed behind)
 
       pub update-inside : n < length s
-      update-inside = update-are .2
+      update-inside = count-there .0
+
+      module _ (c : ℕ) (ec : c ≡ getD s n 0) where
+        counted : byteAt s n ≡ got c (n + 1)
+        counted = count-there .1 ∙ ap (λ (j : ℕ). got j (n + 1)) (sym ec)
+
+        pub pairs-got : isGot (times (pairAt s) c (n + 1)) ≡ true
+        pairs-got = then-first (times (pairAt s) c (n + 1)) (λ qs b. got (Update (textBytes t) qs) b) (then-next (byteAt s n) listed behind c (n + 1) counted)
+
+        pub update-read : gotOr Names (updateAt s at) ≡ Update (textBytes t) (pairsAt s c (n + 1))
+        unfolding pairsAt
+        update-read =
+            let w = was-got (times (pairAt s) c (n + 1)) pairs-got in
+            got-gives Names (updateAt s at) (Update (textBytes t) (w .what)) (w .end)
+            (update-then ∙ then-is (byteAt s n) listed c (n + 1) counted ∙ then-is (times (pairAt s) c (n + 1)) (λ qs b. got (Update (textBytes t) qs) b) (w .what) (w .end) (w .is))
+            ∙ ap (Update (textBytes t)) (sym (got-gives [] (times (pairAt s) c (n + 1)) (w .what) (w .end) (w .is)))
 
 -- ---- what the store did is what the request asks
 
@@ -155,11 +155,6 @@ module _ (f : Fault) (o : Schema.Fault) (e : faultOf f ≡ o) (b : Bool) (eb : b
   pub fault-none : b ≡ true → o ≡ none
   fault-none h = sym e ∙ ap (λ (x : Bool). cond x none (some (f .kind, f .at))) (sym eb ∙ h)
 
--- 25 is asked of the table that its record says
-module _ (p : Profile) (R : ℕ) (s : List ℕ) (t : ℕ) (b : LaidStore p R s) (h : t < length ((parse p R s) .tables)) (tab : List ℕ) (et : tab ≡ getD ((lists p R s) .schemas) t []) where
-  pub size-told : (f : Fault) (qs : List Pair) → faultOf f ≡ sizeFault (readTable p tab) 0 qs → faultOf f ≡ sizeFault (tableIn p R s t) 0 qs
-  size-told f qs e = e ∙ ap (λ (x : Table). sizeFault x 0 qs) (sym (table-is p R s t b h tab et))
-
 module _ (p : Profile) (R : ℕ) (st : State) (n : Name) (qs : List Pair) where
   update-unknown : tableNamed (st .tables) n ≡ none → update p R st n qs ≡ refused (no UnknownTable 0)
   unfolding update maybe
@@ -183,20 +178,24 @@ module _ (p : Profile) (R : ℕ) (s : List ℕ) (b : Store p R s) (n : Name) (qs
   abbrev before : State
   before = parse p R s
 
+  -- it is refused, and nothing is changed
+  kept : (k : Refusal) (i : ℕ) → update p R before n qs ≡ refused (no k i) → (a : Answer) → said a ≡ no k i → Stored p R (update p R before n qs) s s a
+  kept k i e a h = unchanged p R s b (update p R before n qs) (no k i) e a h
+
   pub update-missed : none ≡ placeOf (isNamed n) (before .tables) → (a : Answer) → said a ≡ no UnknownTable 0 → Stored p R (update p R before n qs) s s a
-  update-missed f a h = unchanged p R s b (update p R before n qs) (no UnknownTable 0) (update-unknown p R before n qs (place-missing (isNamed n) (before .tables) (sym f))) a h
+  update-missed f = kept UnknownTable 0 (update-unknown p R before n qs (place-missing (isNamed n) (before .tables) (sym f)))
 
   module _ (t : ℕ) (f : some t ≡ placeOf (isNamed n) (before .tables)) where
-    table-its : tableNamed (before .tables) n ≡ some (tableIn p R s t)
-    table-its = sym (place-found (isNamed n) (before .tables) t (sym f) .1) ∙ table-there p R s t (table-below p R s b n [] t f)
+    abbrev T : Table
+    T = tableIn p R s t
 
     pub update-not-rising : (k : Refusal) (i : ℕ) → risingFault 0 qs ≡ some (k, i) → (a : Answer) → said a ≡ no k i → Stored p R (update p R before n qs) s s a
-    update-not-rising k i e a h = unchanged p R s b (update p R before n qs) (no k i) (update-falls p R before n qs (tableIn p R s t) table-its k i e) a h
+    update-not-rising k i e = kept k i (update-falls p R before n qs T (named-its p R s b n t f) k i e)
 
     module _ (e : risingFault 0 qs ≡ none) where
-      pub update-not-sized : (k : Refusal) (i : ℕ) → sizeFault (tableIn p R s t) 0 qs ≡ some (k, i) → (a : Answer) → said a ≡ no k i → Stored p R (update p R before n qs) s s a
-      update-not-sized k i g a h = unchanged p R s b (update p R before n qs) (no k i) (update-sizes p R before n qs (tableIn p R s t) table-its e k i g) a h
+      pub update-not-sized : (k : Refusal) (i : ℕ) → sizeFault T 0 qs ≡ some (k, i) → (a : Answer) → said a ≡ no k i → Stored p R (update p R before n qs) s s a
+      update-not-sized k i g = kept k i (update-sizes p R before n qs T (named-its p R s b n t f) e k i g)
 
-      pub update-in-turn : sizeFault (tableIn p R s t) 0 qs ≡ none → (after : List ℕ) (a : Answer) → Stored p R (inTurn (pair p R (tableIn p R s t)) before 0 qs) s after a
+      pub update-in-turn : sizeFault T 0 qs ≡ none → (after : List ℕ) (a : Answer) → Stored p R (inTurn (pair p R T) before 0 qs) s after a
           → Stored p R (update p R before n qs) s after a
-      update-in-turn g after a h = rw (update-goes p R before n qs (tableIn p R s t) table-its e g) h
+      update-in-turn g after a h = rw (update-goes p R before n qs T (named-its p R s b n t f) e g) h

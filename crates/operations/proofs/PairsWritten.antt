@@ -155,6 +155,21 @@ module _ (p : Profile) (R : ℕ) (s₀ : List ℕ) (t : ℕ) (rec : List ℕ) (a
         remains = remains-start (pair p R T₀) (parse p R s₀) whole;
       }
 
+  -- the pair at q, as the code read its old key c, which ends at m
+  pub record Ahead (q : ℕ) (c : Cell) (m : ℕ) : Type 0 where
+    pub alone : valuesFrom rec 1 q ≡ held c ∷ []
+    pub proper : Proper (c .value)
+    pub inside : m < length rec
+    pub whole-row : (w : Walked) (y : ℕ) → w ≡ walkedAs (valuesAt rec m) → w ≡ Breaks y → ⊥
+    pub few : p .columns ≤ 8 → (k : ℕ) → k ≡ getD rec m 0 → k ≤ 8
+    pub counts : (k : ℕ) → k ≡ getD rec m 0 → length (valuesFrom rec k (m + 1)) ≡ k
+
+  -- its turn, which left s₁ and answered a
+  pub record Turned (left i m : ℕ) (s₁ : List ℕ) (a : Answer) : Type 0 where
+    pub long : length s₁ ≡ length s₀
+    pub stops : eqb (numberOf (a .kind)) 0 ≡ false → Stored p R (inTurn (pair p R T₀) (parse p R s₀) 0 whole) s₀ s₁ a
+    pub next : eqb (numberOf (a .kind)) 0 ≡ true → (w : Walked) (y : ℕ) → w ≡ walkedAs (valuesAt rec m) → w ≡ Ends y → Updating s₁ (left - 1) y (i + 1)
+
   module _ (s : List ℕ) (left q i : ℕ) (x : Updating s left q i) where
     pub updating-end : left ≤ 0 → (a : Answer) → said a ≡ ok n → Stored p R (inTurn (pair p R T₀) (parse p R s₀) 0 whole) s₀ s a
     updating-end l a h =
@@ -178,18 +193,6 @@ module _ (p : Profile) (R : ℕ) (s₀ : List ℕ) (t : ℕ) (rec : List ℕ) (a
         at-row : valuesAt rec m ≡ got (here .head .row) (here .next)
         at-row = ap (valuesAt rec) mid ∙ here .values
 
-        pub old-alone : valuesFrom rec 1 q ≡ held c ∷ []
-        old-alone = values-got rec 1 q r er (omega arith) c m e ∙ ap (λ (vs : List Value). held c ∷ vs) (values-end rec (1 - 1) m (λ h. omega arith))
-
-        pub old-proper : Proper (c .value)
-        old-proper = cell-proper rec 1 q r er c m e
-
-        pub row-inside : m < length rec
-        row-inside = values-inside rec m (here .head .row) (here .next) at-row
-
-        pub row-whole : (w : Walked) (y : ℕ) → w ≡ walkedAs (valuesAt rec m) → w ≡ Breaks y → ⊥
-        row-whole w y ew ey = row-never rec left q here m mid w y ew ey
-
         -- as many values as the table has columns
         sized : getD rec m 0 ≡ length (T₀ .columns)
         sized = go (eqb (getD rec m 0) (length (T₀ .columns))) refl
@@ -203,10 +206,7 @@ module _ (p : Profile) (R : ℕ) (s₀ : List ℕ) (t : ℕ) (rec : List ℕ) (a
           its-values : valuesFrom rec k (m + 1) ≡ here .head .row
           its-values = ap (λ (j : ℕ). valuesFrom rec j (m + 1)) ek ∙ values-there rec m (here .head .row) (here .next) at-row .0
 
-          pub row-counts : length (valuesFrom rec k (m + 1)) ≡ k
-          row-counts = ap length its-values ∙ values-there rec m (here .head .row) (here .next) at-row .1 ∙ sym ek
-
-          pub row-few : p .columns ≤ 8 → k ≤ 8
+          row-few : p .columns ≤ 8 → k ≤ 8
           row-few h =
               let g = table-good p (tableIn p R s t) (store-valid p R s (x .store) .good-tables (tableIn p R s t) (table-held p R s (laid-store p R s (x .store)) t (x .known))) .few in
               let z : k ≡ length ((tableIn p R s t) .columns) = ek ∙ sized ∙ ap (λ (y : Table). length (y .columns)) (sym (x .table)) in
@@ -245,14 +245,14 @@ module _ (p : Profile) (R : ℕ) (s₀ : List ℕ) (t : ℕ) (rec : List ℕ) (a
               to-come : Remains (pair p R T₀) (parse p R s₀) whole (parse p R s) i (here .head ∷ pairsAt rec (left - 1) (here .next))
               to-come = subst (λ (qs : List Pair). Remains (pair p R T₀) (parse p R s₀) whole (parse p R s) i qs) (here .all) (x .remains)
 
-              pub turn-long : length s₁ ≡ length s₀
+              turn-long : length s₁ ≡ length s₀
               turn-long = pair-long p R s (x .store) t (held c) row row-full i s₁ a h ∙ x .long
 
-              pub updating-stops : eqb (numberOf (a .kind)) 0 ≡ false → Stored p R (inTurn (pair p R T₀) (parse p R s₀) 0 whole) s₀ s₁ a
+              updating-stops : eqb (numberOf (a .kind)) 0 ≡ false → Stored p R (inTurn (pair p R T₀) (parse p R s₀) 0 whole) s₀ s₁ a
               updating-stops g =
                   stored-stops p R (pair p R T₀) s₀ whole s i (here .head) (pairsAt rec (left - 1) (here .next)) to-come s₁ a its-turn g
 
-              pub updating-next : eqb (numberOf (a .kind)) 0 ≡ true → (w : Walked) (y : ℕ) → w ≡ walkedAs (valuesAt rec m) → w ≡ Ends y → Updating s₁ (left - 1) y (i + 1)
+              updating-next : eqb (numberOf (a .kind)) 0 ≡ true → (w : Walked) (y : ℕ) → w ≡ walkedAs (valuesAt rec m) → w ≡ Ends y → Updating s₁ (left - 1) y (i + 1)
               updating-next g w y ew ey =
                   let k : y ≡ here .next = row-end rec left q here m mid w y ew ey in
                   record {
@@ -268,3 +268,17 @@ module _ (p : Profile) (R : ℕ) (s₀ : List ℕ) (t : ℕ) (rec : List ℕ) (a
                         (stored-next p R (pair p R T₀) s₀ whole s i (here .head) (pairsAt rec (left - 1) (here .next)) to-come s₁ a its-turn g
                         (pair-reads p R s (x .store) t (held c) row row-full i s₁ a h ∙ ap (λ (o : Outcome). applyAll (o .changes) (parse p R s)) same-outcome));
                   }
+
+              pub updating-turn : Turned left i m s₁ a
+              updating-turn = record { long = turn-long; stops = updating-stops; next = updating-next }
+
+        pub pair-ahead : Ahead q c m
+        pair-ahead =
+            record {
+              alone = values-got rec 1 q r er (omega arith) c m e ∙ ap (λ (vs : List Value). held c ∷ vs) (values-end rec (1 - 1) m (λ h. omega arith));
+              proper = cell-proper rec 1 q r er c m e;
+              inside = values-inside rec m (here .head .row) (here .next) at-row;
+              whole-row = λ w y ew ey. row-never rec left q here m mid w y ew ey;
+              few = λ h k ek. row-few k ek h;
+              counts = λ k ek. ap length (its-values k ek) ∙ values-there rec m (here .head .row) (here .next) at-row .1 ∙ sym ek;
+            }

@@ -94,7 +94,7 @@ gives-flagged P Q b f at h k l =
 
 -- ---- bytes within limits, names and values
 
-abbrev Within : ℕ → ℕ → ℕ → Type 0
+abbrev pub Within : ℕ → ℕ → ℕ → Type 0
 Within low high b = (low ≤ b) × (b ≤ high)
 
 within : (low high at b n : ℕ) (t u : Bool) → ltb b low ≡ t → ltb high b ≡ u → Gives (Within low high) (cond t (broken at) (cond u (broken at) (got b n)))
@@ -102,7 +102,7 @@ within low high at b n true u e f = gives-broken (Within low high) at
 within low high at b n false true e f = gives-broken (Within low high) at
 within low high at b n false false e f = gives-got (Within low high) b n (ltb-false b low e, ltb-false high b f)
 
-gives-within : (low high : ℕ) (s : List ℕ) (at : ℕ) → Gives (Within low high) (byteFrom low high s at)
+pub gives-within : (low high : ℕ) (s : List ℕ) (at : ℕ) → Gives (Within low high) (byteFrom low high s at)
 unfolding byteFrom
 gives-within low high s at =
     gives-then Any (Within low high) (byteAt s at) _ (any (byteAt s at)) (λ b n e. within low high at b n (ltb b low) (ltb high b) refl refl)

@@ -2,19 +2,18 @@
 use mathlib.Core.Path.{_≡_, refl, sym, ap, _∙_, subst}
 use Prim.Native.Nat.{ℕ, zero, suc, _+_, _-_, _*_, _/_, _%_, _≤_, _<_}
 use native.Mathlib.Omega.{arith}
-use mathlib.Core.Bool.{Bool, true, false, cond, true≢false}
+use mathlib.Core.Bool.{true, false, true≢false}
 use mathlib.Core.List.{List, [], _∷_, _++_, map, append-assoc, append-nil, map-append}
-use mathlib.Core.Option.{Option, none, some, Option·map}
-use lib.Dec.{eqb, ltb, leb}
+use mathlib.Core.Option.{Option, none, some}
+use lib.Dec.{eqb}
 use lib.ListN.{length, getD, take, drop, set, replicate, length-append, length-drop, length-replicate, drop-of-length-le, replicate-append-replicate}
 use lib.Seq.{take-at, drop-at}
 use native.Mathlib.Nat.{sub-zero, add-sub-cancel-left, zero-mul, suc-mul, mul-le-mul, mul-le-mul-right}
-use native.Mathlib.Numerals.{sub-one}
-use borrow.Author.Tests.{ltb-false, leb-false, ne-eqb}
+use borrow.Author.Tests.{ne-eqb}
 use borrow.Rule.Slice.PartMut.{putMid}
 use Rattle.values.specs.Basic.{isSome, orDefault}
 use Rattle.values.specs.Bytes.{zeros, pad, Bytes}
-use Rattle.values.specs.Value.{Value, null, normalised}
+use Rattle.values.specs.Value.{Value, null}
 use Rattle.values.specs.Cell.{nameWidth, cellWidth, nameCell, valueCell}
 use Rattle.values.specs.Read.{Read, got, broken, nameAt, valueAt}
 use Rattle.values.specs.Meaning.{textBytes, Packed, held, ProperCell}
@@ -22,7 +21,6 @@ use Rattle.values.specs.declared.value.Text.{Text}
 use Rattle.values.specs.declared.value.Cell.{Cell}
 use Rattle.values.specs.Records.{joined}
 use Rattle.values.proofs.Packing.{zeros-are, replicate-zeros}
-use Rattle.values.proofs.Reading.{value-read}
 use Rattle.values.proofs.Records.{joined-append}
 use Rattle.values.proofs.Cells.{null-zeros}
 use Rattle.values.proofs.Nest.{put-next, set-next}
@@ -45,86 +43,15 @@ use Rattle.changes.proofs.RowAdded.{drop-zeros}
 use Rattle.records.specs.declared.record.Walked.the-variants.{Ends}
 use Rattle.operations.specs.Got.{isGot, gotOr}
 use Rattle.records.proofs.Walking.{offset}
-use Rattle.operations.proofs.Read.{Gives, gives, given, gives-then, gives-got, gives-flagged, Any, any, gives-column, gives-create}
+use Rattle.operations.proofs.ValuesFrom.{was-got, never-broken, then-is, then-first, then-next, flagged-is, flagged-none, flagged-first, none-left, next-first, next-rest, next-whole, byte-got, from-got}
+use Rattle.operations.proofs.Entered.{Same, gives-same, same-column}
+use Rattle.operations.proofs.Read.{Gives, given, gives-then, gives-got, Any, any, gives-column, gives-create}
 use Rattle.records.specs.Reading.{andThen, times, flagged, byteAt, byteFrom}
 use Rattle.records.specs.Record.{columnAt, createAt}
 use Rattle.records.specs.Walked.{walkedAs}
 use Rattle.operations.specs.Told.{Acted}
 use Rattle.laid.specs.Row.{noColumn}
 use Rattle.operations.specs.Created.{columnOf, tableOf}
-
--- ---- a reading that is got
-
-module _ {A : Type 0} where
-  pub never-broken : (w : Read A) (x : ℕ) → isGot w ≡ true → w ≡ broken x → ⊥
-  unfolding isGot
-  never-broken w x h e = true≢false (sym h ∙ ap isGot e)
-
-  pub got-read : (w : Read A) → isGot w ≡ true → (a : A) × (n : ℕ) × (w ≡ got a n)
-  unfolding isGot
-  got-read (got a n) h = (a, n, refl)
-  got-read (broken x) h = absurd (true≢false (sym h))
-
-module _ {A B : Type 0} where
-  pub then-is : (w : Read A) (f : A → ℕ → Read B) (a : A) (n : ℕ) → w ≡ got a n → andThen w f ≡ f a n
-  unfolding andThen
-  then-is w f a n e = ap (λ (x : Read A). andThen x f) e
-
-  pub then-first : (w : Read A) (f : A → ℕ → Read B) → isGot (andThen w f) ≡ true → isGot w ≡ true
-  unfolding isGot andThen
-  then-first (got a n) f h = refl
-  then-first (broken x) f h = h
-
-  pub then-next : (w : Read A) (f : A → ℕ → Read B) (a : A) (n : ℕ) → w ≡ got a n → isGot (andThen w f) ≡ true → isGot (f a n) ≡ true
-  then-next w f a n e h = sym (ap isGot (then-is w f a n e)) ∙ h
-
--- ---- a byte that is got
-
-pub record ByteGot (low high : ℕ) (s : List ℕ) (at : ℕ) : Type 0 where
-  pub inside : at < length s
-  pub least : low ≤ getD s at 0
-  pub most : getD s at 0 ≤ high
-  pub is : byteFrom low high s at ≡ got (getD s at 0) (at + 1)
-
-byte-case : (s : List ℕ) (at v : ℕ) (b : Bool) → leb (length s) at ≡ b → isGot (cond b (broken at) (got v (at + 1))) ≡ true
-    → (at < length s) × (cond b (broken at) (got v (at + 1)) ≡ got v (at + 1))
-unfolding isGot
-byte-case s at v true e h = absurd (true≢false (sym h))
-byte-case s at v false e h = (leb-false (length s) at e, refl)
-
-pub byte-got : (s : List ℕ) (at : ℕ) → isGot (byteAt s at) ≡ true → (at < length s) × (byteAt s at ≡ got (getD s at 0) (at + 1))
-unfolding byteAt
-byte-got s at h = byte-case s at (getD s at 0) (leb (length s) at) refl h
-
-from-case : (low high at v n : ℕ) (t u : Bool) → ltb v low ≡ t → ltb high v ≡ u → isGot (cond t (broken at) (cond u (broken at) (got v n))) ≡ true
-    → (low ≤ v) × (v ≤ high) × (cond t (broken at) (cond u (broken at) (got v n)) ≡ got v n)
-unfolding isGot
-from-case low high at v n true u e f h = absurd (true≢false (sym h))
-from-case low high at v n false true e f h = absurd (true≢false (sym h))
-from-case low high at v n false false e f h = (ltb-false v low e, ltb-false high v f, refl)
-
-pub from-got : (low high : ℕ) (s : List ℕ) (at : ℕ) → isGot (byteFrom low high s at) ≡ true → ByteGot low high s at
-unfolding byteFrom
-from-got low high s at h =
-    let f : ℕ → ℕ → Read ℕ = λ b n. cond (ltb b low) (broken at) (cond (ltb high b) (broken at) (got b n)) in
-    let b = byte-got s at (then-first (byteAt s at) f h) in
-    let r = from-case low high at (getD s at 0) (at + 1) (ltb (getD s at 0) low) (ltb high (getD s at 0)) refl refl (then-next (byteAt s at) f (getD s at 0) (at + 1) (b .1) h) in
-    record { inside = b .0; least = r .0; most = r .1; is = then-is (byteAt s at) f (getD s at 0) (at + 1) (b .1) ∙ r .2 }
-
--- ---- what is read only where it is flagged
-
-module _ {A : Type 0} (f : ℕ → Read A) (b : Bool) (at : ℕ) where
-  pub flagged-is : (a : A) (n : ℕ) → b ≡ true → f at ≡ got a n → flagged b f at ≡ got (some a) n
-  unfolding flagged andThen
-  flagged-is a n h e = rw (h, e)
-
-  pub flagged-none : b ≡ false → flagged b f at ≡ got none at
-  unfolding flagged
-  flagged-none h = rw h
-
-  pub flagged-first : b ≡ true → isGot (flagged b f at) ≡ true → isGot (f at) ≡ true
-  unfolding flagged
-  flagged-first h e = then-first (f at) (λ a n. got (some a) n) (rw h at e)
 
 -- ---- a column
 
@@ -162,22 +89,22 @@ pub record ColumnGot (s : List ℕ) (at a : ℕ) (name : List ℕ) : Type 0 wher
 pub column-got : (s : List ℕ) (at a : ℕ) (name : List ℕ) → nameAt s at ≡ got name a → isGot (columnAt s at) ≡ true → ColumnGot s at a name
 unfolding columnAt
 column-got s at a name e h =
-    let h1 = then-next (nameAt s at) (afterName s) name a e h in
+    let h1 = then-next (nameAt s at) (afterName s) h name a e in
     let k = from-got 1 4 s a (then-first (byteFrom 1 4 s a) (afterKind s name) h1) in
     let kind : ℕ = getD s a 0 in
-    let h2 = then-next (byteFrom 1 4 s a) (afterKind s name) kind (a + 1) (k .is) h1 in
+    let h2 = then-next (byteFrom 1 4 s a) (afterKind s name) h1 kind (a + 1) (k .is) in
     let q = from-got 0 31 s (a + 1) (then-first (byteFrom 0 31 s (a + 1)) (afterFlags s name kind) h2) in
     let f : ℕ = getD s (a + 1) 0 in
     let two : a + 1 + 1 ≡ a + 2 = omega arith in
     let i : byteFrom 0 31 s (a + 1) ≡ got f (a + 2) = rw two at (q .is) in
-    let h3 = then-next (byteFrom 0 31 s (a + 1)) (afterFlags s name kind) f (a + 2) i h2 in
+    let h3 = then-next (byteFrom 0 31 s (a + 1)) (afterFlags s name kind) h2 f (a + 2) i in
     record {
       inside = q .inside;
       few = q .most;
       default = then-first (flagged (bit 2 f) (valueAt s) (a + 2)) (afterDefault s name kind f) h3;
       reference = λ d n x.
           then-first (flagged (bit 16 f) (nameAt s) n) (λ r y. got (columnWith name kind f d r) y)
-          (then-next (flagged (bit 2 f) (valueAt s) (a + 2)) (afterDefault s name kind f) d n x h3);
+          (then-next (flagged (bit 2 f) (valueAt s) (a + 2)) (afterDefault s name kind f) h3 d n x);
       whole = λ d n r y u v.
           then-is (nameAt s at) (afterName s) name a e
           ∙ then-is (byteFrom 1 4 s a) (afterKind s name) kind (a + 1) (k .is)
@@ -218,13 +145,7 @@ flags-are name kind f d r h ed er =
 pub skip : (a k n : ℕ) (p d : List ℕ) → d ≡ replicate n 0 → a + k ≤ n → p ++ drop a d ≡ (p ++ replicate k 0) ++ drop (a + k) d
 skip a k n p d e h =
     let m : n - a ≡ k + (n - (a + k)) = omega arith in
-    let z : _≡_ {A = List ℕ} (drop a d) (replicate k 0 ++ drop (a + k) d) =
-    ap (drop a) e ∙ drop-zeros a n
-    ∙ ap {B = List ℕ} (λ (j : ℕ). replicate j 0) m
-    ∙ sym (replicate-append-replicate k (n - (a + k)) 0)
-    ∙ sym (ap (λ (l : List ℕ). replicate k 0 ++ l) (ap (drop (a + k)) e ∙ drop-zeros (a + k) n))
-    in
-    ap (λ (l : List ℕ). p ++ l) z ∙ sym (append-assoc p (replicate k 0) (drop (a + k) d))
+    rw (append-assoc, e, drop-zeros a n, drop-zeros (a + k) n, m, replicate-append-replicate)
 
 pub no-name : nameCell [] ≡ replicate nameWidth 0
 unfolding nameCell pad
@@ -235,24 +156,34 @@ unfolding columnWidth
 column-wide p k = omega (arith, k .cells)
 
 -- name, kind and flags
-abbrev leading : List ℕ → ℕ → ℕ → List ℕ
+abbrev pub leading : List ℕ → ℕ → ℕ → List ℕ
 leading y kind f = y ++ (kind ∷ f ∷ [])
 
-module _ (p : Profile) (coded : Coded p) (d : List ℕ) (long : length d ≡ columnWidth p) (clear : zeros d ≡ true)
-    (name : Text) (packed : Packed name) (y : List ℕ) (ey : y ≡ nameCell (textBytes name)) (kind f : ℕ) where
-  pub over : d ≡ replicate 78 0
-  over = zeros-are d clear ∙ ap (λ (n : ℕ). replicate n 0) (long ∙ column-wide p coded)
+-- they are those of a column, whose name ends at a; they are written over the zeros of d
+pub record Led (p : Profile) (d : List ℕ) (name : Text) (y : List ℕ) (kind f : ℕ) (s : List ℕ) (at a : ℕ) : Type 0 where
+  pub coded : Coded p
+  pub long : length d ≡ columnWidth p
+  pub clear : zeros d ≡ true
+  pub packed : Packed name
+  pub cell : y ≡ nameCell (textBytes name)
+  pub column : ColumnGot s at a (textBytes name)
+  pub kind-is : kind ≡ getD s a 0
+  pub flags-is : f ≡ getD s (a + 1) 0
 
+module _ {p : Profile} {d : List ℕ} {name : Text} {y : List ℕ} {kind f : ℕ} {s : List ℕ} {at a : ℕ} (z : Led p d name y kind f s at a) where
   d-long : length d ≡ 78
-  d-long = long ∙ column-wide p coded
+  d-long = z .long ∙ column-wide p (z .coded)
+
+  over : d ≡ replicate 78 0
+  over = zeros-are d (z .clear) ∙ ap (λ (n : ℕ). replicate n 0) d-long
 
   y-long : length y ≡ 25
-  y-long = ap length ey ∙ name-long name packed
+  y-long = ap length (z .cell) ∙ name-long name (z .packed)
 
   lead-long : length (leading y kind f) ≡ 27
   lead-long = simp length-append (omega (arith, y-long))
 
-  pub led : set (set (putMid 0 25 d y) 25 kind) 26 f ≡ leading y kind f ++ drop 27 d
+  led : set (set (putMid 0 25 d y) 25 kind) 26 f ≡ leading y kind f ++ drop 27 d
   led =
       ap (λ (l : List ℕ). set (set l 25 kind) 26 f) (put-next 0 25 [] d y refl)
       ∙ ap (λ (l : List ℕ). set l 26 f) (set-next 25 kind y d y-long (omega (arith, d-long)))
@@ -262,126 +193,98 @@ module _ (p : Profile) (coded : Coded p) (d : List ℕ) (long : length d ≡ col
   pub led-long : length (set (set (putMid 0 25 d y) 25 kind) 26 f) ≡ 78
   led-long = ap length led ∙ simp (length-append, length-drop) (omega (arith, y-long, d-long))
 
-  module _ (s : List ℕ) (at a : ℕ) (g : ColumnGot s at a (textBytes name)) (ek : kind ≡ getD s a 0) (ef : f ≡ getD s (a + 1) 0) where
-    -- the default is written, where there is one
-    pub record Defaulted (part : List ℕ) (end : ℕ) : Type 0 where
-      pub value : Option Value
-      pub flag : isSome value ≡ bit 2 f
-      pub read : flagged (bit 2 (getD s (a + 1) 0)) (valueAt s) (a + 2) ≡ got value end
-      pub wide : length (valueCell cellWidth (orDefault value null)) ≡ 26
-      pub is : part ≡ (leading y kind f ++ valueCell cellWidth (orDefault value null)) ++ drop 53 d
+  -- the default is written, where there is one
+  pub record Defaulted (part : List ℕ) (end : ℕ) : Type 0 where
+    pub value : Option Value
+    pub flag : isSome value ≡ bit 2 f
+    pub read : flagged (bit 2 (getD s (a + 1) 0)) (valueAt s) (a + 2) ≡ got value end
+    pub wide : length (valueCell cellWidth (orDefault value null)) ≡ 26
+    pub is : part ≡ (leading y kind f ++ valueCell cellWidth (orDefault value null)) ++ drop 53 d
 
-    pub default-written : (end : ℕ) (cell : Cell) (x : List ℕ) → f / 2 % 2 ≡ 1 → valueAt s (a + 2) ≡ got (held cell) end → ProperCell cell
-        → x ≡ valueCell cellWidth (held cell) → Defaulted (putMid 27 26 (set (set (putMid 0 25 d y) 25 kind) 26 f) x) end
-    default-written end cell x t e h ex =
-        let on : bit 2 f ≡ true = rw t in
+  pub default-written : (end : ℕ) (cell : Cell) (x : List ℕ) → f / 2 % 2 ≡ 1 → valueAt s (a + 2) ≡ got (held cell) end → ProperCell cell
+      → x ≡ valueCell cellWidth (held cell) → Defaulted (putMid 27 26 (set (set (putMid 0 25 d y) 25 kind) 26 f) x) end
+  default-written end cell x t e h ex =
+      let on : bit 2 f ≡ true = rw t in
+      record {
+        value = some (held cell);
+        flag = sym on;
+        read = flagged-is (valueAt s) (bit 2 (getD s (a + 1) 0)) (a + 2) (held cell) end (sym (ap (bit 2) (z .flags-is)) ∙ on) e;
+        wide = cell-wide (cell .value) h;
+        is = ap (λ (l : List ℕ). putMid 27 26 l x) led ∙ put-next 27 26 (leading y kind f) d x lead-long ∙ ap (λ (l : List ℕ). (leading y kind f ++ l) ++ drop 53 d) ex;
+      }
+
+  pub default-left : (f / 2 % 2 ≡ 1 → ⊥) → Defaulted (set (set (putMid 0 25 d y) 25 kind) 26 f) (a + 2)
+  default-left t =
+      let off : bit 2 f ≡ false = ne-eqb (f / 2 % 2) 1 t in
+      record {
+        value = none;
+        flag = sym off;
+        read = flagged-none (valueAt s) (bit 2 (getD s (a + 1) 0)) (a + 2) (sym (ap (bit 2) (z .flags-is)) ∙ off);
+        wide = ap length (null-zeros 26 (omega arith));
+        is = led ∙ skip 27 26 78 (leading y kind f) d over (omega arith) ∙ ap (λ (l : List ℕ). (leading y kind f ++ l) ++ drop 53 d) (sym (null-zeros 26 (omega arith)));
+      }
+
+  pub default-broken : (x : ℕ) → f / 2 % 2 ≡ 1 → valueAt s (a + 2) ≡ broken x → ⊥
+  default-broken x t e =
+      never-broken (valueAt s (a + 2)) x (flagged-first (valueAt s) (bit 2 (getD s (a + 1) 0)) (a + 2) (sym (ap (bit 2) (z .flags-is)) ∙ rw t) (z .column .default)) e
+
+  module _ (part : List ℕ) (mid : ℕ) (b : Defaulted part mid) where
+    pub default-long : length part ≡ 78
+    default-long = ap length (b .is) ∙ simp (length-append, length-drop) (omega (arith, y-long, d-long, b .wide))
+
+    -- all is written
+    pub record Columned (all : List ℕ) (end : ℕ) : Type 0 where
+      pub is : all ≡ columnRecord p (columnOf (columnAt s at))
+      pub ends : Ends end ≡ walkedAs (columnAt s at)
+      pub kept : length all ≡ length d
+
+    columned : (all : List ℕ) (end : ℕ) (r : Option (List ℕ)) → isSome r ≡ bit 16 f → flagged (bit 16 (getD s (a + 1) 0)) (nameAt s) mid ≡ got r end
+        → length (nameCell (orDefault r [])) ≡ 25
+        → all ≡ ((leading y kind f ++ valueCell cellWidth (orDefault (b .value) null)) ++ nameCell (orDefault r [])) ++ drop 78 d → Columned all end
+    unfolding columnRecord walkedAs gotOr
+    columned all end r er e l x =
+        let w : columnAt s at ≡ got (columnWith (textBytes name) (getD s a 0) (getD s (a + 1) 0) (b .value) r) end = z .column .whole (b .value) mid r end (b .read) e in
+        let none : drop 78 d ≡ [] = drop-of-length-le d {i = 78} (omega (arith, d-long)) in
+        let fl : flags (columnWith (textBytes name) kind f (b .value) r) ≡ f = flags-are (textBytes name) kind f (b .value) r (omega (arith, z .flags-is, z .column .few)) (b .flag) er in
+        let v : List ℕ = valueCell cellWidth (orDefault (b .value) null) in
+        let n : List ℕ = nameCell (orDefault r []) in
+        let whole : all ≡ columnRecord p (columnWith (textBytes name) kind f (b .value) r) =
+        x ∙ ap (λ (l : List ℕ). ((leading y kind f ++ v) ++ n) ++ l) none
+        ∙ append-nil ((leading y kind f ++ v) ++ n)
+        ∙ append-assoc (leading y kind f) v n
+        ∙ append-assoc y (kind ∷ f ∷ []) (v ++ n)
+        ∙ rw (z .cell, fl, z .coded .cells)
+        in
         record {
-          value = some (held cell);
-          flag = sym on;
-          read = flagged-is (valueAt s) (bit 2 (getD s (a + 1) 0)) (a + 2) (held cell) end (sym (ap (bit 2) ef) ∙ on) e;
-          wide = cell-wide (cell .value) h;
-          is = ap (λ (l : List ℕ). putMid 27 26 l x) led ∙ put-next 27 26 (leading y kind f) d x lead-long ∙ ap (λ (l : List ℕ). (leading y kind f ++ l) ++ drop 53 d) ex;
+          is = whole ∙ rw (z .kind-is, z .flags-is) (sym (ap (λ (q : Read Column). columnRecord p (gotOr noColumn q)) w));
+          ends = sym (ap walkedAs w);
+          kept = ap length x ∙ simp (length-append, length-drop) (omega (arith, y-long, d-long, b .wide, l));
         }
 
-    pub default-left : (f / 2 % 2 ≡ 1 → ⊥) → Defaulted (set (set (putMid 0 25 d y) 25 kind) 26 f) (a + 2)
-    default-left t =
-        let off : bit 2 f ≡ false = ne-eqb (f / 2 % 2) 1 t in
-        record {
-          value = none;
-          flag = sym off;
-          read = flagged-none (valueAt s) (bit 2 (getD s (a + 1) 0)) (a + 2) (sym (ap (bit 2) ef) ∙ off);
-          wide = ap length (null-zeros 26 (omega arith));
-          is = led ∙ skip 27 26 78 (leading y kind f) d over (omega arith) ∙ ap (λ (l : List ℕ). (leading y kind f ++ l) ++ drop 53 d) (sym (null-zeros 26 (omega arith)));
-        }
+    pub reference-written : (end : ℕ) (target : Text) (x : List ℕ) → f / 16 % 2 ≡ 1 → nameAt s mid ≡ got (textBytes target) end → Packed target
+        → x ≡ nameCell (textBytes target) → Columned (putMid 53 25 part x) end
+    reference-written end target x t e h ex =
+        let on : bit 16 f ≡ true = rw t in
+        columned (putMid 53 25 part x) end (some (textBytes target)) (sym on)
+        (flagged-is (nameAt s) (bit 16 (getD s (a + 1) 0)) mid (textBytes target) end (sym (ap (bit 16) (z .flags-is)) ∙ on) e)
+        (name-long target h)
+        (ap (λ (l : List ℕ). putMid 53 25 l x) (b .is)
+        ∙ put-next 53 25 (leading y kind f ++ valueCell cellWidth (orDefault (b .value) null)) d x (simp length-append (omega (arith, y-long, b .wide)))
+        ∙ ap (λ (l : List ℕ). ((leading y kind f ++ valueCell cellWidth (orDefault (b .value) null)) ++ l) ++ drop 78 d) ex)
 
-    pub default-broken : (x : ℕ) → f / 2 % 2 ≡ 1 → valueAt s (a + 2) ≡ broken x → ⊥
-    default-broken x t e =
-        never-broken (valueAt s (a + 2)) x (flagged-first (valueAt s) (bit 2 (getD s (a + 1) 0)) (a + 2) (sym (ap (bit 2) ef) ∙ rw t) (g .default)) e
+    pub reference-left : (f / 16 % 2 ≡ 1 → ⊥) → Columned part mid
+    reference-left t =
+        let off : bit 16 f ≡ false = ne-eqb (f / 16 % 2) 1 t in
+        columned part mid none (sym off)
+        (flagged-none (nameAt s) (bit 16 (getD s (a + 1) 0)) mid (sym (ap (bit 16) (z .flags-is)) ∙ off))
+        (ap length no-name)
+        (b .is ∙ skip 53 25 78 (leading y kind f ++ valueCell cellWidth (orDefault (b .value) null)) d over (omega arith)
+        ∙ ap (λ (l : List ℕ). ((leading y kind f ++ valueCell cellWidth (orDefault (b .value) null)) ++ l) ++ drop 78 d) (sym no-name))
 
-    module _ (part : List ℕ) (mid : ℕ) (b : Defaulted part mid) where
-      pub default-long : length part ≡ 78
-      default-long = ap length (b .is) ∙ simp (length-append, length-drop) (omega (arith, y-long, d-long, b .wide))
-
-      -- all is written
-      pub record Columned (all : List ℕ) (end : ℕ) : Type 0 where
-        pub is : all ≡ columnRecord p (columnOf (columnAt s at))
-        pub ends : Ends end ≡ walkedAs (columnAt s at)
-        pub kept : length all ≡ length d
-
-      columned : (all : List ℕ) (end : ℕ) (r : Option (List ℕ)) → isSome r ≡ bit 16 f → flagged (bit 16 (getD s (a + 1) 0)) (nameAt s) mid ≡ got r end
-          → length (nameCell (orDefault r [])) ≡ 25
-          → all ≡ ((leading y kind f ++ valueCell cellWidth (orDefault (b .value) null)) ++ nameCell (orDefault r [])) ++ drop 78 d → Columned all end
-      unfolding columnRecord walkedAs gotOr
-      columned all end r er e l x =
-          let w : columnAt s at ≡ got (columnWith (textBytes name) (getD s a 0) (getD s (a + 1) 0) (b .value) r) end = g .whole (b .value) mid r end (b .read) e in
-          let none : drop 78 d ≡ [] = drop-of-length-le d {i = 78} (omega (arith, d-long)) in
-          let fl : flags (columnWith (textBytes name) kind f (b .value) r) ≡ f = flags-are (textBytes name) kind f (b .value) r (omega (arith, ef, g .few)) (b .flag) er in
-          let v : List ℕ = valueCell cellWidth (orDefault (b .value) null) in
-          let n : List ℕ = nameCell (orDefault r []) in
-          let whole : all ≡ columnRecord p (columnWith (textBytes name) kind f (b .value) r) =
-          x ∙ ap (λ (l : List ℕ). ((leading y kind f ++ v) ++ n) ++ l) none
-          ∙ append-nil ((leading y kind f ++ v) ++ n)
-          ∙ append-assoc (leading y kind f) v n
-          ∙ append-assoc y (kind ∷ f ∷ []) (v ++ n)
-          ∙ rw (ey, fl, coded .cells)
-          in
-          record {
-            is = whole ∙ rw (ek, ef) (sym (ap (λ (q : Read Column). columnRecord p (gotOr noColumn q)) w));
-            ends = sym (ap walkedAs w);
-            kept = ap length x ∙ simp (length-append, length-drop) (omega (arith, y-long, d-long, b .wide, l));
-          }
-
-      pub reference-written : (end : ℕ) (target : Text) (x : List ℕ) → f / 16 % 2 ≡ 1 → nameAt s mid ≡ got (textBytes target) end → Packed target
-          → x ≡ nameCell (textBytes target) → Columned (putMid 53 25 part x) end
-      reference-written end target x t e h ex =
-          let on : bit 16 f ≡ true = rw t in
-          columned (putMid 53 25 part x) end (some (textBytes target)) (sym on)
-          (flagged-is (nameAt s) (bit 16 (getD s (a + 1) 0)) mid (textBytes target) end (sym (ap (bit 16) ef) ∙ on) e)
-          (name-long target h)
-          (ap (λ (l : List ℕ). putMid 53 25 l x) (b .is)
-          ∙ put-next 53 25 (leading y kind f ++ valueCell cellWidth (orDefault (b .value) null)) d x (simp length-append (omega (arith, y-long, b .wide)))
-          ∙ ap (λ (l : List ℕ). ((leading y kind f ++ valueCell cellWidth (orDefault (b .value) null)) ++ l) ++ drop 78 d) ex)
-
-      pub reference-left : (f / 16 % 2 ≡ 1 → ⊥) → Columned part mid
-      reference-left t =
-          let off : bit 16 f ≡ false = ne-eqb (f / 16 % 2) 1 t in
-          columned part mid none (sym off)
-          (flagged-none (nameAt s) (bit 16 (getD s (a + 1) 0)) mid (sym (ap (bit 16) ef) ∙ off))
-          (ap length no-name)
-          (b .is ∙ skip 53 25 78 (leading y kind f ++ valueCell cellWidth (orDefault (b .value) null)) d over (omega arith)
-          ∙ ap (λ (l : List ℕ). ((leading y kind f ++ valueCell cellWidth (orDefault (b .value) null)) ++ l) ++ drop 78 d) (sym no-name))
-
-      pub reference-broken : (x : ℕ) → f / 16 % 2 ≡ 1 → nameAt s mid ≡ broken x → ⊥
-      reference-broken x t e =
-          never-broken (nameAt s mid) x
-          (flagged-first (nameAt s) (bit 16 (getD s (a + 1) 0)) mid (sym (ap (bit 16) ef) ∙ rw t) (g .reference (b .value) mid (b .read))) e
-
--- ---- n in a row
-
-module _ {A : Type 0} (f : ℕ → Read A) where
-  pub none-left : (n at : ℕ) → n ≤ 0 → times f n at ≡ got [] at
-  unfolding times
-  none-left zero at h = refl
-  none-left (suc n) at h = absurd (omega arith)
-
-  pub next-first : (n at : ℕ) → 0 < n → isGot (times f n at) ≡ true → isGot (f at) ≡ true
-  unfolding times
-  next-first zero at l h = absurd (omega arith)
-  next-first (suc n) at l h = then-first (f at) (λ a b. andThen (times f n b) (λ rest c. got (a ∷ rest) c)) h
-
-  pub next-rest : (n at : ℕ) (a : A) (b : ℕ) → 0 < n → f at ≡ got a b → isGot (times f n at) ≡ true → isGot (times f (n - 1) b) ≡ true
-  unfolding times
-  next-rest zero at a b l e h = absurd (omega arith)
-  next-rest (suc n) at a b l e h =
-      rw (sub-one (suc n))
-      (then-first (times f n b) (λ rest c. got (a ∷ rest) c) (then-next (f at) (λ a b. andThen (times f n b) (λ rest c. got (a ∷ rest) c)) a b e h))
-
-  pub next-whole : (n at : ℕ) (a : A) (b : ℕ) (rest : List A) (c : ℕ) → 0 < n → f at ≡ got a b → times f (n - 1) b ≡ got rest c → times f n at ≡ got (a ∷ rest) c
-  unfolding times
-  next-whole zero at a b rest c l e h = absurd (omega arith)
-  next-whole (suc n) at a b rest c l e h =
-      then-is (f at) (λ a b. andThen (times f n b) (λ rest c. got (a ∷ rest) c)) a b e
-      ∙ then-is (times f n b) (λ rest c. got (a ∷ rest) c) rest c (rw (sub-one (suc n)) at h)
+    pub reference-broken : (x : ℕ) → f / 16 % 2 ≡ 1 → nameAt s mid ≡ broken x → ⊥
+    reference-broken x t e =
+        never-broken (nameAt s mid) x
+        (flagged-first (nameAt s) (bit 16 (getD s (a + 1) 0)) mid (sym (ap (bit 16) (z .flags-is)) ∙ rw t) (z .column .reference (b .value) mid (b .read))) e
 
 -- what is got where it ends
 pub got-ends : {A : Type 0} (w : Read A) (d : A) (r : ℕ) → isGot w ≡ true → Ends r ≡ walkedAs w → w ≡ got (gotOr d w) r
@@ -392,30 +295,9 @@ got-ends (broken x) d r h e = absurd (true≢false (sym h))
 -- ---- a column that is read is good as it stands: its default is normalised by the reading
 
 module _ (s : List ℕ) where
-  abbrev Entered : Column → Type 0
-  Entered c = enteredColumn c ≡ c
-
-  abbrev Normal : Option Value → Type 0
-  Normal o = Option·map normalised o ≡ o
-
-  gives-entered : (at : ℕ) → Gives Entered (columnAt s at)
-  unfolding columnAt
-  gives-entered at =
-      gives-then Any Entered (nameAt s at) (afterName s) (any (nameAt s at))
-      (λ name a x1.
-      gives-then Any Entered (byteFrom 1 4 s a) (afterKind s name) (any (byteFrom 1 4 s a))
-      (λ kind b x2.
-      gives-then Any Entered (byteFrom 0 31 s b) (afterFlags s name kind) (any (byteFrom 0 31 s b))
-      (λ f c x3.
-      gives-then Normal Entered (flagged (bit 2 f) (valueAt s) c) (afterDefault s name kind f)
-      (gives-flagged (λ v. normalised v ≡ v) Normal (bit 2 f) (valueAt s) c (gives (λ v. normalised v ≡ v) (valueAt s c) (λ v n e. value-read s c v n e .normal)) refl (λ v e. ap some e))
-      (λ d n e.
-      gives-then Any Entered (flagged (bit 16 f) (nameAt s) n) (λ r y. got (columnWith name kind f d r) y) (any (flagged (bit 16 f) (nameAt s) n))
-      (λ r m x4. gives-got Entered (columnWith name kind f d r) m (ap (λ (o : Option Value). columnWith name kind f o r) e))))))
-
   pub column-fine : Bytes s → (at : ℕ) (c : Column) (e : ℕ) → columnAt s at ≡ got c e → goodColumn c ≡ true
   column-fine h at c e x =
-      subst (λ (y : Column). goodColumn y ≡ true) (given Entered (columnAt s at) c e (gives-entered at) x)
+      subst (λ (y : Column). goodColumn y ≡ true) (given (Same enteredColumn) (columnAt s at) c e (same-column s at) x)
       (given (λ y. goodColumn (enteredColumn y) ≡ true) (columnAt s at) c e (gives-column s h at) x)
 
 -- ---- a create
@@ -445,15 +327,15 @@ pub record SchemaGot (s : List ℕ) (p : Profile) (at a : ℕ) (name : List ℕ)
 pub schema-got : (s : List ℕ) (p : Profile) (at a : ℕ) (name : List ℕ) → nameAt s at ≡ got name a → isGot (createAt s p at) ≡ true → SchemaGot s p at a name
 unfolding createAt
 schema-got s p at a name e h =
-    let h1 = then-next (nameAt s at) (afterTable s p) name a e h in
+    let h1 = then-next (nameAt s at) (afterTable s p) h name a e in
     let key : ℕ = getD s a 0 in
     let k = byte-got s a (then-first (byteAt s a) (afterKey s p name) h1) in
-    let h2 = then-next (byteAt s a) (afterKey s p name) key (a + 1) (k .1) h1 in
+    let h2 = then-next (byteAt s a) (afterKey s p name) h1 key (a + 1) (k .1) in
     let q = from-got 0 (p .columns) s (a + 1) (then-first (byteFrom 0 (p .columns) s (a + 1)) (afterCount s p name key) h2) in
     let n : ℕ = getD s (a + 1) 0 in
     let two : a + 1 + 1 ≡ a + 2 = omega arith in
     let i : byteFrom 0 (p .columns) s (a + 1) ≡ got n (a + 2) = rw two at (q .is) in
-    let h3 = then-next (byteFrom 0 (p .columns) s (a + 1)) (afterCount s p name key) n (a + 2) i h2 in
+    let h3 = then-next (byteFrom 0 (p .columns) s (a + 1)) (afterCount s p name key) h2 n (a + 2) i in
     let last : List Column → ℕ → Read Request = λ cs d. got (Create (record { name = name; key = key; columns = cs })) d in
     record {
       inside = q .inside;
@@ -479,6 +361,9 @@ columns-next p cs c =
     ∙ ap (λ (l : List ℕ). joined (map (columnRecord p) cs) ++ l) (append-nil (columnRecord p c))
 
 pub record Schemed (p : Profile) (s lead : List ℕ) (count begin : ℕ) (out : List ℕ) (left from q : ℕ) : Type 0 where
+  pub coded : Coded p
+  pub bytes : Bytes s
+  pub within : count ≤ p .columns
   pub done : List Column
   pub few : length done + left ≡ count
   pub ahead : isGot (times (columnAt s) left q) ≡ true
@@ -494,88 +379,93 @@ clear-front w n h =
     ∙ ap (take w) (sym (replicate-append-replicate w (n - w) 0))
     ∙ take-at (replicate w 0) (replicate (n - w) 0) w (length-replicate w 0)
 
-module _ (p : Profile) (coded : Coded p) (s : List ℕ) (bytes : Bytes s) (lead : List ℕ) (count begin : ℕ) (within : count ≤ p .columns) where
-  pub schema-start : (out : List ℕ) → length lead ≡ 27 → out ≡ lead ++ drop 27 (replicate (schemaWidth p) 0) → isGot (times (columnAt s) count begin) ≡ true
-      → Schemed p s lead count begin out count 27 begin
-  unfolding columnsBytes joined
-  schema-start out l e h =
-      record {
-        done = [];
-        few = omega arith;
-        ahead = h;
-        rest = λ cs e x. x;
-        from-is = rw (zero-mul (columnWidth p));
-        front = ap length (append-nil lead) ∙ l;
-        is = e ∙ ap (λ (x : List ℕ). x ++ drop 27 (replicate (schemaWidth p) 0)) (sym (append-nil lead));
-      }
+pub schema-start : (p : Profile) (s lead : List ℕ) (count begin : ℕ) → Coded p → Bytes s → count ≤ p .columns → (out : List ℕ) → length lead ≡ 27
+    → out ≡ lead ++ drop 27 (replicate (schemaWidth p) 0) → isGot (times (columnAt s) count begin) ≡ true → Schemed p s lead count begin out count 27 begin
+unfolding columnsBytes joined
+schema-start p s lead count begin k b w out l e h =
+    record {
+      coded = k;
+      bytes = b;
+      within = w;
+      done = [];
+      few = omega arith;
+      ahead = h;
+      rest = λ cs e x. x;
+      from-is = rw (zero-mul (columnWidth p));
+      front = ap length (append-nil lead) ∙ l;
+      is = e ∙ ap (λ (x : List ℕ). x ++ drop 27 (replicate (schemaWidth p) 0)) (sym (append-nil lead));
+    }
 
-  module _ (out : List ℕ) (left from q : ℕ) (x : Schemed p s lead count begin out left from q) where
-    from-most : from ≤ schemaWidth p
-    unfolding schemaWidth
-    from-most =
-        let h : length (x .done) ≤ p .columns = omega (arith, x .few) in
-        omega (arith, x .from-is, mul-le-mul-right (columnWidth p) h)
+module _ {p : Profile} {s lead : List ℕ} {count begin : ℕ} {out : List ℕ} {left from q : ℕ} (x : Schemed p s lead count begin out left from q) where
+  from-most : from ≤ schemaWidth p
+  unfolding schemaWidth
+  from-most =
+      let h : length (x .done) ≤ p .columns = omega (arith, x .few, x .within) in
+      omega (arith, x .from-is, mul-le-mul-right (columnWidth p) h)
 
-    pub schema-inside : length out ≡ schemaWidth p
-    schema-inside =
-        ap length (x .is) ∙ length-append (lead ++ columnsBytes p (x .done)) (drop from (replicate (schemaWidth p) 0))
-        ∙ omega (arith, from-most, x .front, length-drop {A = ℕ} from (replicate (schemaWidth p) 0), length-replicate {A = ℕ} (schemaWidth p) 0)
+  pub schema-inside : length out ≡ schemaWidth p
+  schema-inside =
+      ap length (x .is) ∙ length-append (lead ++ columnsBytes p (x .done)) (drop from (replicate (schemaWidth p) 0))
+      ∙ omega (arith, from-most, x .front, length-drop {A = ℕ} from (replicate (schemaWidth p) 0), length-replicate {A = ℕ} (schemaWidth p) 0)
 
-    module _ (more : 0 < left) (w : ℕ) (ew : w ≡ columnWidth p) where
-      pub column-room : from + w ≤ schemaWidth p
-      column-room = omega (arith, x .from-is, x .few, ew, column-within p (length (x .done)) (omega (arith, x .few)))
+  module _ (more : 0 < left) (w : ℕ) (ew : w ≡ columnWidth p) where
+    pub column-room : from + w ≤ schemaWidth p
+    column-room = omega (arith, x .from-is, x .few, ew, column-within p (length (x .done)) (omega (arith, x .few, x .within)))
 
-      pub column-inside : from + w ≤ length out
-      column-inside = omega (arith, column-room, schema-inside)
+    pub column-inside : from + w ≤ length out
+    column-inside = omega (arith, column-room, schema-inside)
 
-      -- the part that a column is written through
-      part-is : take (from + w - from) (drop from out) ≡ replicate w 0
-      part-is =
-          ap (λ (m : ℕ). take m (drop from out)) (add-sub-cancel-left from w)
-          ∙ ap (λ (l : List ℕ). take w (drop from l)) (x .is)
-          ∙ ap (take w) (drop-at (lead ++ columnsBytes p (x .done)) (drop from (replicate (schemaWidth p) 0)) from (x .front) ∙ drop-zeros from (schemaWidth p))
-          ∙ clear-front w (schemaWidth p - from) (omega (arith, column-room))
+    -- the part that a column is written through
+    part-is : take (from + w - from) (drop from out) ≡ replicate w 0
+    part-is =
+        ap (λ (m : ℕ). take m (drop from out)) (add-sub-cancel-left from w)
+        ∙ ap (λ (l : List ℕ). take w (drop from l)) (x .is)
+        ∙ ap (take w) (drop-at (lead ++ columnsBytes p (x .done)) (drop from (replicate (schemaWidth p) 0)) from (x .front) ∙ drop-zeros from (schemaWidth p))
+        ∙ clear-front w (schemaWidth p - from) (omega (arith, column-room))
 
-      pub column-requires : Coded p × (length (take (from + w - from) (drop from out)) ≡ columnWidth p) × (zeros (take (from + w - from) (drop from out)) ≡ true) × (isGot (columnAt s q) ≡ true)
-      column-requires = (
-        coded,
-        ap length part-is ∙ length-replicate w 0 ∙ ew,
-        ap zeros part-is ∙ replicate-zeros w,
-        next-first (columnAt s) left q more (x .ahead),
-      )
+    pub column-requires : Coded p × (length (take (from + w - from) (drop from out)) ≡ columnWidth p) × (zeros (take (from + w - from) (drop from out)) ≡ true) × (isGot (columnAt s q) ≡ true)
+    column-requires = (
+      x .coded,
+      ap length part-is ∙ length-replicate w 0 ∙ ew,
+      ap zeros part-is ∙ replicate-zeros w,
+      next-first (columnAt s) left q more (x .ahead),
+    )
 
-      module _ (y : List ℕ) (r : ℕ) (ey : y ≡ columnRecord p (columnOf (columnAt s q))) (er : Ends r ≡ walkedAs (columnAt s q)) where
-        abbrev c : Column
-        c = columnOf (columnAt s q)
+    module _ (y : List ℕ) (r : ℕ) (ey : y ≡ columnRecord p (columnOf (columnAt s q))) (er : Ends r ≡ walkedAs (columnAt s q)) where
+      abbrev c : Column
+      c = columnOf (columnAt s q)
 
-        read : columnAt s q ≡ got c r
-        read = got-ends (columnAt s q) noColumn r (next-first (columnAt s) left q more (x .ahead)) er
+      read : columnAt s q ≡ got c r
+      read = got-ends (columnAt s q) noColumn r (next-first (columnAt s) left q more (x .ahead)) er
 
-        y-wide : length y ≡ w
-        y-wide = ap length ey ∙ column-long p (coded .known .cell) c (column-good c (column-fine s bytes q c r read)) ∙ sym ew
+      y-wide : length y ≡ w
+      y-wide = ap length ey ∙ column-long p (x .coded .known .cell) c (column-good c (column-fine s (x .bytes) q c r read)) ∙ sym ew
 
-        joins : (lead ++ columnsBytes p (x .done)) ++ y ≡ lead ++ columnsBytes p (x .done ++ (c ∷ []))
-        joins =
-            append-assoc lead (columnsBytes p (x .done)) y
-            ∙ ap (λ (l : List ℕ). lead ++ l) (ap (λ (l : List ℕ). columnsBytes p (x .done) ++ l) ey ∙ sym (columns-next p (x .done) c))
+      joins : (lead ++ columnsBytes p (x .done)) ++ y ≡ lead ++ columnsBytes p (x .done ++ (c ∷ []))
+      joins =
+          append-assoc lead (columnsBytes p (x .done)) y
+          ∙ ap (λ (l : List ℕ). lead ++ l) (ap (λ (l : List ℕ). columnsBytes p (x .done) ++ l) ey ∙ sym (columns-next p (x .done) c))
 
-        pub schema-next : Schemed p s lead count begin (putMid from (from + w - from) out y) (left - 1) (from + w) r
-        schema-next =
-            record {
-              done = x .done ++ (c ∷ []);
-              few = omega (arith, x .few, length-append (x .done) (c ∷ []));
-              ahead = next-rest (columnAt s) left q c r more read (x .ahead);
-              rest = λ cs e h. x .rest (c ∷ cs) e (next-whole (columnAt s) left q c r cs e more read h) ∙ ap (λ (l : List Column). got l e) (sym (append-assoc (x .done) (c ∷ []) cs));
-              from-is =
-                  let n : length (x .done ++ (c ∷ [])) ≡ suc (length (x .done)) = length-append (x .done) (c ∷ []) ∙ omega arith in
-                  omega (arith, x .from-is, ew, ap (λ (m : ℕ). m * columnWidth p) n ∙ suc-mul (length (x .done)) (columnWidth p));
-              front = ap length (sym joins) ∙ length-append (lead ++ columnsBytes p (x .done)) y ∙ omega (arith, x .front, y-wide);
-              is =
-                  ap (λ (m : ℕ). putMid from m out y) (add-sub-cancel-left from w)
-                  ∙ ap (λ (l : List ℕ). putMid from w l y) (x .is)
-                  ∙ put-next from w (lead ++ columnsBytes p (x .done)) (replicate (schemaWidth p) 0) y (x .front)
-                  ∙ ap (λ (l : List ℕ). l ++ drop (from + w) (replicate (schemaWidth p) 0)) joins;
-            }
+      pub schema-next : Schemed p s lead count begin (putMid from (from + w - from) out y) (left - 1) (from + w) r
+      schema-next =
+          record {
+            coded = x .coded;
+            bytes = x .bytes;
+            within = x .within;
+            done = x .done ++ (c ∷ []);
+            few = omega (arith, x .few, length-append (x .done) (c ∷ []));
+            ahead = next-rest (columnAt s) left q c r more read (x .ahead);
+            rest = λ cs e h. x .rest (c ∷ cs) e (next-whole (columnAt s) left q c r cs e more read h) ∙ ap (λ (l : List Column). got l e) (sym (append-assoc (x .done) (c ∷ []) cs));
+            from-is =
+                let n : length (x .done ++ (c ∷ [])) ≡ suc (length (x .done)) = length-append (x .done) (c ∷ []) ∙ omega arith in
+                omega (arith, x .from-is, ew, ap (λ (m : ℕ). m * columnWidth p) n ∙ suc-mul (length (x .done)) (columnWidth p));
+            front = ap length (sym joins) ∙ length-append (lead ++ columnsBytes p (x .done)) y ∙ omega (arith, x .front, y-wide);
+            is =
+                ap (λ (m : ℕ). putMid from m out y) (add-sub-cancel-left from w)
+                ∙ ap (λ (l : List ℕ). putMid from w l y) (x .is)
+                ∙ put-next from w (lead ++ columnsBytes p (x .done)) (replicate (schemaWidth p) 0) y (x .front)
+                ∙ ap (λ (l : List ℕ). l ++ drop (from + w) (replicate (schemaWidth p) 0)) joins;
+          }
 
 -- what a create says before its columns, when its name ends at a
 abbrev pub schemaLead : List ℕ → ℕ → ℕ → ℕ → List ℕ
@@ -590,13 +480,13 @@ unfolding schemaWidth
 schema-least p d long = omega (arith, long)
 
 -- name, key column and column count are written
+pub schema-led-long : (name : Text) → Packed name → (key n : ℕ) → length (leading (nameCell (textBytes name)) key n) ≡ 27
+schema-led-long name packed key n = simp length-append (omega (arith, name-long name packed))
+
 module _ (p : Profile) (d : List ℕ) (long : length d ≡ schemaWidth p) (clear : zeros d ≡ true)
     (name : Text) (packed : Packed name) (y : List ℕ) (ey : y ≡ nameCell (textBytes name)) (key n : ℕ) where
   y-named : length y ≡ 25
   y-named = ap length ey ∙ name-long name packed
-
-  pub schema-led-long : length (leading (nameCell (textBytes name)) key n) ≡ 27
-  schema-led-long = simp length-append (omega (arith, name-long name packed))
 
   pub schema-led : set (set (putMid 0 25 d y) 25 key) 26 n ≡ leading (nameCell (textBytes name)) key n ++ drop 27 (replicate (schemaWidth p) 0)
   schema-led =
@@ -608,11 +498,10 @@ module _ (p : Profile) (d : List ℕ) (long : length d ≡ schemaWidth p) (clear
       ∙ ap (λ (l : List ℕ). leading (nameCell (textBytes name)) key n ++ drop 27 l) (zeros-are d clear ∙ ap {B = List ℕ} (λ (m : ℕ). replicate m 0) long)
 
 -- all of it is written
-pub schema-written : (p : Profile) (s name : List ℕ) (at a key n : ℕ) → SchemaGot s p at a name → key ≡ getD s a 0 → n ≡ getD s (a + 1) 0
-    → (lead : List ℕ) → lead ≡ leading (nameCell name) key n
-    → length lead ≡ 27 → (out : List ℕ) (left from q : ℕ) → Schemed p s lead n (a + 2) out left from q → left ≤ 0 → out ≡ tableRecord p (tableOf (createAt s p at))
+pub schema-written : {p : Profile} {s name : List ℕ} {at a key n : ℕ} {lead out : List ℕ} {left from q : ℕ} → SchemaGot s p at a name → key ≡ getD s a 0 → n ≡ getD s (a + 1) 0
+    → lead ≡ leading (nameCell name) key n → length lead ≡ 27 → Schemed p s lead n (a + 2) out left from q → left ≤ 0 → out ≡ tableRecord p (tableOf (createAt s p at))
 unfolding tableRecord pad gotOr columnsBytes schemaWidth
-schema-written p s name at a key n g ek en lead el ll out left from q x h =
+schema-written {p} {s} {name} {at} {a} {key} {n} {lead} {out} {left} {from} {q} g ek en el ll x h =
     let cs : List Column = x .done ++ [] in
     let same : cs ≡ x .done = append-nil (x .done) in
     let z : times (columnAt s) left q ≡ got [] q = none-left (columnAt s) left q h in
@@ -633,19 +522,6 @@ schema-written p s name at a key n g ek en lead el ll out left from q x h =
 
 -- ---- what is created
 
-module _ (s : List ℕ) where
-  abbrev AllEntered : List Column → Type 0
-  AllEntered cs = map enteredColumn cs ≡ cs
-
-  gives-all : (n at : ℕ) → Gives AllEntered (times (columnAt s) n at)
-  unfolding times
-  gives-all zero at = gives-got AllEntered [] at refl
-  gives-all (suc n) at =
-      gives-then (Entered s) AllEntered (columnAt s at) (λ a b. andThen (times (columnAt s) n b) (λ rest c. got (a ∷ rest) c)) (gives-entered s at)
-      (λ a b e.
-      gives-then AllEntered AllEntered (times (columnAt s) n b) (λ rest c. got (a ∷ rest) c) (gives-all n b)
-      (λ rest c k. gives-got AllEntered (a ∷ rest) c (ap {B = List Column} (λ (x : Column). x ∷ map enteredColumn rest) e ∙ ap {B = List Column} (λ (l : List Column). a ∷ l) k)))
-
 abbrev Made : Request → Type 0
 Made q = (t : Table) × (q ≡ Create t) × (enteredTable t ≡ t)
 
@@ -658,7 +534,8 @@ gives-made s p at =
     (λ key b x2.
     gives-then Any Made (byteFrom 0 (p .columns) s b) (afterCount s p name key) (any (byteFrom 0 (p .columns) s b))
     (λ n c x3.
-    gives-then (AllEntered s) Made (times (columnAt s) n c) (λ cs d. got (Create (record { name = name; key = key; columns = cs })) d) (gives-all s n c)
+    gives-then (Same (map enteredColumn)) Made (times (columnAt s) n c) (λ cs d. got (Create (record { name = name; key = key; columns = cs })) d)
+    (gives-same enteredColumn (columnAt s) n c (same-column s))
     (λ cs d e.
     gives-got Made (Create (record { name = name; key = key; columns = cs })) d
     (record { name = name; key = key; columns = cs }, refl, ap (λ (l : List Column). record { name = name; key = key; columns = l }) e)))))
@@ -673,13 +550,13 @@ pub record CreateGot (s : List ℕ) (p : Profile) (at : ℕ) : Type 0 where
 pub create-got : (s : List ℕ) → Bytes s → (p : Profile) (at : ℕ) → isGot (createAt s p at) ≡ true → CreateGot s p at
 unfolding readable
 create-got s b p at h =
-    let g = got-read (createAt s p at) h in
-    let m = given Made (createAt s p at) (g .0) (g .1) (gives-made s p at) (g .2) in
-    let r : readable p (g .0) ≡ true = given (λ q. readable p q ≡ true) (createAt s p at) (g .0) (g .1) (gives-create s b p at) (g .2) in
-    let i : createAt s p at ≡ got (Create (m .0)) (g .1) = g .2 ∙ ap (λ (q : Request). got q (g .1)) (m .1) in
+    let g = was-got (createAt s p at) h in
+    let m = given Made (createAt s p at) (g .what) (g .end) (gives-made s p at) (g .is) in
+    let r : readable p (g .what) ≡ true = given (λ q. readable p q ≡ true) (createAt s p at) (g .what) (g .end) (gives-create s b p at) (g .is) in
+    let i : createAt s p at ≡ got (Create (m .0)) (g .end) = g .is ∙ ap (λ (q : Request). got q (g .end)) (m .1) in
     record {
       table = m .0;
-      end = g .1;
+      end = g .end;
       is = i;
       good = subst (λ (t : Table). goodTable p t ≡ true) (m .2) (subst (λ (q : Request). readable p q ≡ true) (m .1) r);
     }

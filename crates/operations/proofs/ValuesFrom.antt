@@ -1,24 +1,26 @@
 -- Readings that did not break, taken apart; and the values from a position on: one more of them, and that they are what n readings in a row give.
 -- Assumes nothing.
-use Prim.Native.Nat.{ℕ, zero, suc, _+_, _-_, _<_}
+use Prim.Native.Nat.{ℕ, zero, suc, _+_, _-_, _≤_, _<_}
 use mathlib.Core.Path.{_≡_, refl, sym, ap, _∙_, subst}
-use mathlib.Core.Bool.{Bool, true, false, cond}
+use mathlib.Core.Bool.{Bool, true, false, cond, true≢false}
 use mathlib.Core.List.{List, [], _∷_}
+use mathlib.Core.Option.{none, some}
 use native.Mathlib.Numerals.{sub-one}
 use native.Mathlib.Omega.{arith}
 use lib.Dec.{leb, ltb}
 use lib.ListN.{length, getD}
 use borrow.Author.Tests.{leb-false}
-use Rattle.values.specs.Meaning.{held, ProperCell}
-use Rattle.values.specs.Read.{Read, got, broken, valueAt, cellRead, CellRead, ProperRead}
+use Rattle.values.specs.Meaning.{ProperCell}
+use Rattle.values.specs.Read.{Read, got, broken, valueAt, CellRead, ProperRead}
 use Rattle.values.specs.Value.{Value}
-use Rattle.values.specs.declared.read.ReadCell.the-variants.{Got, Broken}
+use Rattle.values.specs.declared.read.ReadCell.the-variants.{Got}
 use Rattle.values.specs.declared.read.ReadCell.{ReadCell}
 use Rattle.values.specs.declared.value.Cell.{Cell}
 use Rattle.checks.specs.Keys.{onRead, valuesFrom}
 use Rattle.operations.specs.Got.{isGot, gotOr}
-use Rattle.records.specs.Reading.{andThen, times, byteAt, byteFrom}
+use Rattle.records.specs.Reading.{andThen, times, flagged, byteAt, byteFrom}
 use Rattle.records.specs.Record.{valuesAt}
+use Rattle.operations.proofs.Read.{given, Within, gives-within}
 
 -- ---- readings that did not break
 
@@ -42,6 +44,10 @@ module _ {A : Type 0} where
   unfolding gotOr
   got-gives d w a n h = rw h
 
+  pub never-broken : (w : Read A) (x : ℕ) → isGot w ≡ true → w ≡ broken x → ⊥
+  unfolding isGot
+  never-broken w x h e = true≢false (sym h ∙ ap isGot e)
+
   -- a test that breaks was not met
   pub unbroken : (t : Bool) (y : ℕ) (w : Read A) (a : A) (n : ℕ) → cond t (broken y) w ≡ got a n → (t ≡ false) × (w ≡ got a n)
   unbroken true y w a n h = absurd (let z : _≡_ {A = ℕ} 0 1 = cc in omega arith)
@@ -58,6 +64,35 @@ pub parted : {A B : Type 0} (w : Read A) (f : A → ℕ → Read B) (b : B) (e :
 unfolding andThen
 parted (got a n) f b e h = record { first = a; next = n; is = refl; then = h }
 parted (broken x) f b e h = absurd (let z : _≡_ {A = ℕ} 0 1 = cc in omega arith)
+
+module _ {A B : Type 0} (w : Read A) (f : A → ℕ → Read B) where
+  pub then-is : (a : A) (n : ℕ) → w ≡ got a n → andThen w f ≡ f a n
+  unfolding andThen
+  then-is a n e = ap (λ (x : Read A). andThen x f) e
+
+  module _ (h : isGot (andThen w f) ≡ true) where
+    pub then-first : isGot w ≡ true
+    then-first =
+        let x = was-got (andThen w f) h in
+        let y = parted w f (x .what) (x .end) (x .is) in
+        got-is w (y .first) (y .next) (y .is)
+
+    pub then-next : (a : A) (n : ℕ) → w ≡ got a n → isGot (f a n) ≡ true
+    then-next a n e = sym (ap isGot (then-is a n e)) ∙ h
+
+-- what is read only where it is flagged
+module _ {A : Type 0} (f : ℕ → Read A) (b : Bool) (at : ℕ) where
+  pub flagged-is : (a : A) (n : ℕ) → b ≡ true → f at ≡ got a n → flagged b f at ≡ got (some a) n
+  unfolding flagged andThen
+  flagged-is a n h e = rw (h, e)
+
+  pub flagged-none : b ≡ false → flagged b f at ≡ got none at
+  unfolding flagged
+  flagged-none h = rw h
+
+  pub flagged-first : b ≡ true → isGot (flagged b f at) ≡ true → isGot (f at) ≡ true
+  unfolding flagged
+  flagged-first h e = then-first (f at) (λ a n. got (some a) n) (rw h at e)
 
 -- the first of n in a row, and the others
 pub record Headed {A : Type 0} (f : ℕ → Read A) (n at : ℕ) (xs : List A) (e : ℕ) : Type 0 where
@@ -83,6 +118,31 @@ headed f n at xs e h =
       all = cc (q .then);
     }
 
+module _ {A : Type 0} (f : ℕ → Read A) where
+  abbrev others : ℕ → A → ℕ → Read (List A)
+  others n a b = andThen (times f n b) (λ rest c. got (a ∷ rest) c)
+
+  pub none-left : (n at : ℕ) → n ≤ 0 → times f n at ≡ got [] at
+  unfolding times
+  none-left zero at h = refl
+  none-left (suc n) at h = absurd (omega arith)
+
+  pub next-first : (n at : ℕ) → 0 < n → isGot (times f n at) ≡ true → isGot (f at) ≡ true
+  unfolding times
+  next-first zero at l h = absurd (omega arith)
+  next-first (suc n) at l h = then-first (f at) (others n) h
+
+  pub next-rest : (n at : ℕ) (a : A) (b : ℕ) → 0 < n → f at ≡ got a b → isGot (times f n at) ≡ true → isGot (times f (n - 1) b) ≡ true
+  unfolding times
+  next-rest zero at a b l e h = absurd (omega arith)
+  next-rest (suc n) at a b l e h = rw (sub-one (suc n)) (then-first (times f n b) (λ rest c. got (a ∷ rest) c) (then-next (f at) (others n) h a b e))
+
+  pub next-whole : (n at : ℕ) (a : A) (b : ℕ) (rest : List A) (c : ℕ) → 0 < n → f at ≡ got a b → times f (n - 1) b ≡ got rest c → times f n at ≡ got (a ∷ rest) c
+  unfolding times
+  next-whole zero at a b rest c l e h = absurd (omega arith)
+  next-whole (suc n) at a b rest c l e h =
+      then-is (f at) (others n) a b e ∙ then-is (times f n b) (λ rest c. got (a ∷ rest) c) rest c (rw (sub-one (suc n)) at h)
+
 -- ---- bytes
 
 pub record ByteThere (s : List ℕ) (at b n : ℕ) : Type 0 where
@@ -104,6 +164,25 @@ from-there low high s at b n h =
     let v = unbroken (ltb high (p .first)) at (got (p .first) (p .next)) b n (u .1) in
     let t = byte-there s at (p .first) (p .next) (p .is) in
     record { inside = t .inside; is = t .is ∙ cc (v .1); next = t .next ∙ cc (v .1) }
+
+-- a byte that was read is the one that stands there
+pub byte-got : (s : List ℕ) (at : ℕ) → isGot (byteAt s at) ≡ true → (at < length s) × (byteAt s at ≡ got (getD s at 0) (at + 1))
+byte-got s at h =
+    let w = was-got (byteAt s at) h in
+    let t = byte-there s at (w .what) (w .end) (w .is) in
+    (t .inside, rw (t .is, t .next) (w .is))
+
+pub record ByteGot (low high : ℕ) (s : List ℕ) (at : ℕ) : Type 0 where
+  pub inside : at < length s
+  pub most : getD s at 0 ≤ high
+  pub is : byteFrom low high s at ≡ got (getD s at 0) (at + 1)
+
+pub from-got : (low high : ℕ) (s : List ℕ) (at : ℕ) → isGot (byteFrom low high s at) ≡ true → ByteGot low high s at
+from-got low high s at h =
+    let w = was-got (byteFrom low high s at) h in
+    let t = from-there low high s at (w .what) (w .end) (w .is) in
+    let r = given (Within low high) (byteFrom low high s at) (w .what) (w .end) (gives-within low high s at) (w .is) in
+    record { inside = t .inside; most = rw (t .is) (r .1); is = rw (t .is, t .next) (w .is) }
 
 -- ---- the values from a position on
 

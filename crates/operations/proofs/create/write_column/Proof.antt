@@ -4,12 +4,13 @@ use mathlib.Core.Logic.{⊎-elim}
 use Prim.Native.Nat.{ℕ}
 use mathlib.Core.List.{List}
 use native.Mathlib.Omega.{arith}
-use lib.ListN.{set, length-set}
+use lib.ListN.{length, set, length-set}
 use Rattle.values.specs.Meaning.{textBytes, Packed}
 use Rattle.values.specs.Read.{got, nameAt, nameRead, ProperName, cellRead, ProperRead}
 use Rattle.values.proofs.Parts.{mid-long}
 use Rattle.changes.proofs.Writing.{named-long}
-use Rattle.operations.proofs.SchemaWritten.{ColumnGot, column-got, never-broken, column-name, moved, column-wide, led-long, Defaulted, default-written, default-left, default-broken, default-long, Columned, reference-written, reference-left, reference-broken}
+use Rattle.operations.proofs.ValuesFrom.{never-broken}
+use Rattle.operations.proofs.SchemaWritten.{ColumnGot, column-got, column-name, moved, column-wide, Led, led-long, Defaulted, default-written, default-left, default-broken, default-long, Columned, reference-written, reference-left, reference-broken}
 use borrow.Rule.Slice.PartMut.{putMid}
 use borrow.Author.Needs.{needs}
 use Rattle.operations.proofs.create.write_column.Statement.{statement}
@@ -32,63 +33,73 @@ column k = column-got _ _ _ _ (named k) (start k .pre .3)
 abbrev known : tie.After-byte-of2 → tie.After-known-told
 known b = b .before .before .before .before .before .before
 
-abbrev Default : tie.After-byte-of2 → List ℕ → ℕ → Type 0
-Default b =
+led : (b : tie.After-byte-of2) →
+    let k = known b in
+    let a = (start k) .args in
+    Led (a .p) (a .part .now) (k .before .name .given .0 .0) (b .before .before .before .write-name .last .0) (b .byte-of2 .result) (b .before .before .before .before .before .byte-of .result)
+    (a .rec .now) (a .at) (k .before .name .given .0 .1 .0)
+led b =
     let k = known b in
     let s = start k in
-    Defaulted (s .args .p) (s .pre .0) (s .args .part .now) (s .pre .1) (s .pre .2) (k .before .name .given .0 .0) (packed k)
-    (b .before .before .before .write-name .last .0) (b .before .before .before .write-name .ensures) (b .byte-of2 .result) (b .before .before .before .before .before .byte-of .result)
-    (s .args .rec .now) (s .args .at) (k .before .name .given .0 .1 .0) (column k) (b .byte-of2 .ensures) (b .before .before .before .before .before .byte-of .ensures)
+    record {
+      coded = s .pre .0;
+      long = s .pre .1;
+      clear = s .pre .2;
+      packed = packed k;
+      cell = b .before .before .before .write-name .ensures;
+      column = column k;
+      kind-is = b .byte-of2 .ensures;
+      flags-is = b .before .before .before .before .before .byte-of .ensures;
+    }
 
-default : (j : tie.Joined1) → Default (j .before) (j .if1 .part) (j .if1 .end)
+default : (j : tie.Joined1) → Defaulted (led (j .before)) (j .if1 .part) (j .if1 .end)
 default j =
-    let b = j .before in
-    let k = known b in
-    let s = start k in
+    let z = led (j .before) in
     ⊎-elim
-    (λ w. moved (Default b) _ _ _ _ (w .9) (w .10) (default-written (s .args .p) (s .pre .0) (s .args .part .now) (s .pre .1) (s .pre .2) (k .before .name .given .0 .0) (packed k) (b .before .before .before .write-name .last .0) (b .before .before .before .write-name .ensures) (b .byte-of2 .result) (b .before .before .before .before .before .byte-of .result) (s .args .rec .now) (s .args .at) (k .before .name .given .0 .1 .0) (column k) (b .byte-of2 .ensures) (b .before .before .before .before .before .byte-of .ensures) (w .3 .given .0 .1 .0) (w .3 .given .0 .0) (w .6 .last .0) (w .0 .taken)
-    (sym (w .1 .ensures .is) ∙ ap cellRead (w .3 .given .1)) (subst ProperRead (w .3 .given .1) (w .1 .ensures .proper)) (w .6 .ensures)))
+    (λ w.
+    moved (Defaulted z) _ _ _ _ (w .9) (w .10)
+    (default-written z (w .3 .given .0 .1 .0) (w .3 .given .0 .0) (w .6 .last .0) (w .0 .taken) (sym (w .1 .ensures .is) ∙ ap cellRead (w .3 .given .1))
+    (subst ProperRead (w .3 .given .1) (w .1 .ensures .proper)) (w .6 .ensures)))
     (λ u.
     ⊎-elim
-    (λ w. absurd (default-broken (s .args .p) (s .pre .0) (s .args .part .now) (s .pre .1) (s .pre .2) (k .before .name .given .0 .0) (packed k) (b .before .before .before .write-name .last .0) (b .before .before .before .write-name .ensures) (b .byte-of2 .result) (b .before .before .before .before .before .byte-of .result) (s .args .rec .now) (s .args .at) (k .before .name .given .0 .1 .0) (column k) (b .byte-of2 .ensures) (b .before .before .before .before .before .byte-of .ensures) _ (w .0 .taken) (sym (w .1 .ensures .is) ∙ ap cellRead (w .3 .given .1))))
-    (λ w. moved (Default b) _ _ _ _ (w .1) (w .2) (default-left (s .args .p) (s .pre .0) (s .args .part .now) (s .pre .1) (s .pre .2) (k .before .name .given .0 .0) (packed k) (b .before .before .before .write-name .last .0) (b .before .before .before .write-name .ensures) (b .byte-of2 .result) (b .before .before .before .before .before .byte-of .result) (s .args .rec .now) (s .args .at) (k .before .name .given .0 .1 .0) (column k) (b .byte-of2 .ensures) (b .before .before .before .before .before .byte-of .ensures) (w .0 .left)))
+    (λ w. absurd (default-broken z _ (w .0 .taken) (sym (w .1 .ensures .is) ∙ ap cellRead (w .3 .given .1))))
+    (λ w. moved (Defaulted z) _ _ _ _ (w .1) (w .2) (default-left z (w .0 .left)))
     u)
     (j .if1 .came)
 
 abbrev Whole : (j : tie.Joined1) → List ℕ → ℕ → Type 0
-Whole j =
-    let b = j .before in
-    let k = known b in
-    let s = start k in
-    Columned (s .args .p) (s .pre .0) (s .args .part .now) (s .pre .1) (s .pre .2) (k .before .name .given .0 .0) (packed k) (b .before .before .before .write-name .last .0) (b .before .before .before .write-name .ensures) (b .byte-of2 .result) (b .before .before .before .before .before .byte-of .result) (s .args .rec .now) (s .args .at) (k .before .name .given .0 .1 .0) (column k) (b .byte-of2 .ensures) (b .before .before .before .before .before .byte-of .ensures) (j .if1 .part) (j .if1 .end) (default j)
+Whole j = Columned (led (j .before)) (j .if1 .part) (j .if1 .end) (default j)
 
-written : (c : tie.After-slice-known4) → let j = c .before .before .before .before .before .before .before .before .before in Whole j (putMid 53 25 (j .if1 .part) (c .before .before .write-name2 .last .0)) (c .before .before .before .before .before .target .given .0 .1 .0)
+abbrev joined : tie.After-slice-known4 → tie.Joined1
+joined c = c .before .before .before .before .before .before .before .before .before
+
+written : (c : tie.After-slice-known4) →
+    let j = joined c in
+    Whole j (putMid 53 25 (j .if1 .part) (c .before .before .write-name2 .last .0)) (c .before .before .before .before .before .target .given .0 .1 .0)
 written c =
-    let j = c .before .before .before .before .before .before .before .before .before in
+    let j = joined c in
     let t = c .before .before .before .before .before in
     let r = t .before .before in
-    let b = j .before in
-    let k = known b in
-    let s = start k in
-    reference-written (s .args .p) (s .pre .0) (s .args .part .now) (s .pre .1) (s .pre .2) (k .before .name .given .0 .0) (packed k) (b .before .before .before .write-name .last .0) (b .before .before .before .write-name .ensures) (b .byte-of2 .result) (b .before .before .before .before .before .byte-of .result) (s .args .rec .now) (s .args .at) (k .before .name .given .0 .1 .0) (column k) (b .byte-of2 .ensures) (b .before .before .before .before .before .byte-of .ensures) (j .if1 .part) (j .if1 .end) (default j) (t .target .given .0 .1 .0) (t .target .given .0 .0) (c .before .before .write-name2 .last .0) (r .before .if2 .taken)
-    (sym (r .name-at2 .ensures .is) ∙ ap nameRead (t .target .given .1)) (subst ProperName (t .target .given .1) (r .name-at2 .ensures .proper)) (c .before .before .write-name2 .ensures)
+    let y = c .before .before .write-name2 in
+    reference-written (led (j .before)) (j .if1 .part) (j .if1 .end) (default j) (t .target .given .0 .1 .0) (t .target .given .0 .0) (y .last .0) (r .before .if2 .taken)
+    (sym (r .name-at2 .ensures .is) ∙ ap nameRead (t .target .given .1)) (subst ProperName (t .target .given .1) (r .name-at2 .ensures .proper)) (y .ensures)
 
 never : (c : tie.After-enum-told3) → ⊥
 never c =
     let r = c .before .before in
     let j = r .before .before in
-    let b = j .before in
-    let k = known b in
-    let s = start k in
-    reference-broken (s .args .p) (s .pre .0) (s .args .part .now) (s .pre .1) (s .pre .2) (k .before .name .given .0 .0) (packed k) (b .before .before .before .write-name .last .0) (b .before .before .before .write-name .ensures) (b .byte-of2 .result) (b .before .before .before .before .before .byte-of .result) (s .args .rec .now) (s .args .at) (k .before .name .given .0 .1 .0) (column k) (b .byte-of2 .ensures) (b .before .before .before .before .before .byte-of .ensures) (j .if1 .part) (j .if1 .end) (default j) _ (r .before .if2 .taken) (sym (r .name-at2 .ensures .is) ∙ ap nameRead (c .enum-told3 .given .1))
+    reference-broken (led (j .before)) (j .if1 .part) (j .if1 .end) (default j) _ (r .before .if2 .taken) (sym (r .name-at2 .ensures .is) ∙ ap nameRead (c .enum-told3 .given .1))
 
 left : (c : tie.Else2) → Whole (c .before) (c .before .if1 .part) (c .before .if1 .end)
-left c =
-    let j = c .before in
-    let b = j .before in
-    let k = known b in
+left c = let j = c .before in reference-left (led (j .before)) (j .if1 .part) (j .if1 .end) (default j) (c .if2 .left)
+
+long : (c : tie.After-byte-of2) → length (putMid 0 25 ((start (known c)) .args .part .now) (c .before .before .before .write-name .last .0)) ≡ 78
+long c =
+    let k = known c in
     let s = start k in
-    reference-left (s .args .p) (s .pre .0) (s .args .part .now) (s .pre .1) (s .pre .2) (k .before .name .given .0 .0) (packed k) (b .before .before .before .write-name .last .0) (b .before .before .before .write-name .ensures) (b .byte-of2 .result) (b .before .before .before .before .before .byte-of .result) (s .args .rec .now) (s .args .at) (k .before .name .given .0 .1 .0) (column k) (b .byte-of2 .ensures) (b .before .before .before .before .before .byte-of .ensures) (j .if1 .part) (j .if1 .end) (default j) (c .if2 .left)
+    let w = column-wide (s .args .p) (s .pre .0) in
+    let y = c .before .before .before .write-name in
+    named-long (s .args .part .now) (y .last .0) (k .before .name .given .0 .0) (packed k) (y .ensures) (omega (arith, s .pre .1, w)) ∙ s .pre .1 ∙ w
 
 name-at-requires : tie.Need-name-at-requires
 name-at-requires c κs = search needs
@@ -127,16 +138,10 @@ byte-of-requires-2 : tie.Need-byte-of-requires-2
 byte-of-requires-2 c κs = search needs
 
 slice-write-part : tie.Need-slice-write-part
-slice-write-part c =
-    let k = known c in
-    let s = start k in
-    omega (arith, named-long (s .args .part .now) (c .before .before .before .write-name .last .0) (k .before .name .given .0 .0) (packed k) (c .before .before .before .write-name .ensures) (omega (arith, s .pre .1, column-wide (s .args .p) (s .pre .0))), s .pre .1, column-wide (s .args .p) (s .pre .0))
+slice-write-part c = omega (arith, long c)
 
 slice-write-part-2 : tie.Need-slice-write-part-2
-slice-write-part-2 c =
-    let k = known c in
-    let s = start k in
-    simp length-set (omega (arith, named-long (s .args .part .now) (c .before .before .before .write-name .last .0) (k .before .name .given .0 .0) (packed k) (c .before .before .before .write-name .ensures) (omega (arith, s .pre .1, column-wide (s .args .p) (s .pre .0))), s .pre .1, column-wide (s .args .p) (s .pre .0)))
+slice-write-part-2 c = simp length-set (omega (arith, long c))
 
 add-end : tie.Need-add-end
 add-end c = omega (arith, column (known c) .inside)
@@ -154,19 +159,15 @@ part-write-cell-start : tie.Need-part-write-cell-start
 part-write-cell-start c = search needs
 
 part-write-cell-end : tie.Need-part-write-cell-end
-part-write-cell-end c =
-    let b = c .before .before .before .before .before in
-    let k = known b in
-    let s = start k in
-    omega (arith, led-long (s .args .p) (s .pre .0) (s .args .part .now) (s .pre .1) (s .pre .2) (k .before .name .given .0 .0) (packed k) (b .before .before .before .write-name .last .0) (b .before .before .before .write-name .ensures) (b .byte-of2 .result) (b .before .before .before .before .before .byte-of .result))
+part-write-cell-end c = omega (arith, led-long (led (c .before .before .before .before .before)))
 
 write-cell-requires : tie.Need-write-cell-requires
 write-cell-requires c κs =
     let b = c .before .before .before .before .before .before in
-    let k = known b in
-    let s = start k in
+    let y = b .before .before .before .write-name .last .0 in
     let x = c .before .before in (
-      mid-long 27 26 (set (set (putMid 0 25 (s .args .part .now) (b .before .before .before .write-name .last .0)) 25 (b .byte-of2 .result)) 26 (b .before .before .before .before .before .byte-of .result)) (omega (arith, led-long (s .args .p) (s .pre .0) (s .args .part .now) (s .pre .1) (s .pre .2) (k .before .name .given .0 .0) (packed k) (b .before .before .before .write-name .last .0) (b .before .before .before .write-name .ensures) (b .byte-of2 .result) (b .before .before .before .before .before .byte-of .result))),
+      mid-long 27 26 (set (set (putMid 0 25 ((start (known b)) .args .part .now) y) 25 (b .byte-of2 .result)) 26 (b .before .before .before .before .before .byte-of .result))
+          (omega (arith, led-long (led b))),
       subst ProperRead (x .c .given .1) (x .before .before .value-at .ensures .proper),
     )
 
@@ -188,19 +189,13 @@ part-write-name-start-2 c = search needs
 part-write-name-end-2 : tie.Need-part-write-name-end-2
 part-write-name-end-2 c =
     let j = c .before .before .before .before .before in
-    let b = j .before in
-    let k = known b in
-    let s = start k in
-    omega (arith, default-long (s .args .p) (s .pre .0) (s .args .part .now) (s .pre .1) (s .pre .2) (k .before .name .given .0 .0) (packed k) (b .before .before .before .write-name .last .0) (b .before .before .before .write-name .ensures) (b .byte-of2 .result) (b .before .before .before .before .before .byte-of .result) (s .args .rec .now) (s .args .at) (k .before .name .given .0 .1 .0) (column k) (b .byte-of2 .ensures) (b .before .before .before .before .before .byte-of .ensures) (j .if1 .part) (j .if1 .end) (default j))
+    omega (arith, default-long (led (j .before)) (j .if1 .part) (j .if1 .end) (default j))
 
 write-name-requires-2 : tie.Need-write-name-requires-2
 write-name-requires-2 c κs =
     let j = c .before .before .before .before .before .before in
-    let b = j .before in
-    let k = known b in
-    let s = start k in
     let x = c .before .before in (
-      mid-long 53 25 (j .if1 .part) (omega (arith, default-long (s .args .p) (s .pre .0) (s .args .part .now) (s .pre .1) (s .pre .2) (k .before .name .given .0 .0) (packed k) (b .before .before .before .write-name .last .0) (b .before .before .before .write-name .ensures) (b .byte-of2 .result) (b .before .before .before .before .before .byte-of .result) (s .args .rec .now) (s .args .at) (k .before .name .given .0 .1 .0) (column k) (b .byte-of2 .ensures) (b .before .before .before .before .before .byte-of .ensures) (j .if1 .part) (j .if1 .end) (default j))),
+      mid-long 53 25 (j .if1 .part) (omega (arith, default-long (led (j .before)) (j .if1 .part) (j .if1 .end) (default j))),
       subst ProperName (x .target .given .1) (x .before .before .name-at2 .ensures .proper),
     )
 

@@ -9,13 +9,16 @@ use Rattle.operations.specs.Got.{isGot}
 use Rattle.records.specs.Reading.{times}
 use Rattle.records.specs.Record.{columnAt}
 use Rattle.values.specs.Bytes.{Bytes}
+use Rattle.values.specs.Cell.{nameCell}
 use Rattle.values.specs.Meaning.{textBytes, Packed}
+use Rattle.values.specs.declared.value.Text.{Text}
 use Rattle.values.specs.Read.{got, nameAt, nameRead, ProperName}
 use Rattle.values.proofs.Parts.{mid-long}
 use Rattle.rules.specs.Profile.{schemaWidth}
 use Rattle.rules.proofs.Widths.{schema-most}
 use Rattle.changes.proofs.Writing.{named-long}
-use Rattle.operations.proofs.SchemaWritten.{never-broken, create-name, SchemaGot, schema-got, Schemed, schema-start, schema-inside, column-room, column-inside, column-requires, schema-next, schemaLead, lead-is, schema-least, schema-led-long, schema-led, schema-written}
+use Rattle.operations.proofs.ValuesFrom.{never-broken}
+use Rattle.operations.proofs.SchemaWritten.{create-name, SchemaGot, schema-got, Schemed, schema-start, schema-inside, column-room, column-inside, column-requires, schema-next, leading, schemaLead, lead-is, schema-least, schema-led-long, schema-led, schema-written}
 use mathlib.Core.List.{List, _++_}
 use Rattle.operations.proofs.create.write_schema.Statement.{statement}
 use Rattle.operations.proofs.create.write_schema.Tie as tie
@@ -38,7 +41,9 @@ packed k = subst ProperName (k .before .name .given .1) (k .before .before .befo
 bytes : (k : tie.After-known-told Inv-loop μ-loop) → Bytes (start k .args .rec .now)
 bytes k i = omega (arith, k .before .before .before .before .shared-slice-known .given i)
 
-schema : (k : tie.After-known-told Inv-loop μ-loop) → SchemaGot (start k .args .rec .now) (start k .args .p) (start k .args .at) (k .before .name .given .0 .1 .0) (textBytes (k .before .name .given .0 .0))
+schema : (k : tie.After-known-told Inv-loop μ-loop) →
+    let a = (start k) .args in
+    SchemaGot (a .rec .now) (a .p) (a .at) (k .before .name .given .0 .1 .0) (textBytes (k .before .name .given .0 .0))
 schema k = schema-got _ _ _ _ _ (named k) (start k .pre .3)
 
 least : (k : tie.After-known-told Inv-loop μ-loop) → 27 ≤ length (start k .args .out .now)
@@ -49,6 +54,25 @@ known w = w .before .before .before .before .before .before .before
 
 within : (w : tie.After-column-width Inv-loop μ-loop) → w .before .byte-of2 .result ≤ start (known w) .args .p .columns
 within w = omega (arith, schema (known w) .few, w .before .byte-of2 .ensures)
+
+-- name, key column and column count are written
+abbrev next : tie.After-column-width Inv-loop μ-loop → ℕ
+next w = (known w) .before .name .given .0 .1 .0
+
+abbrev lead : tie.After-column-width Inv-loop μ-loop → List ℕ
+lead w = let a = (start (known w)) .args in schemaLead (a .rec .now) (a .at) (next w) (w .before .byte-of2 .result)
+
+abbrev name : tie.After-column-width Inv-loop μ-loop → Text
+name w = (known w) .before .name .given .0 .0
+
+leads : (w : tie.After-column-width Inv-loop μ-loop) → lead w ≡ leading (nameCell (textBytes (name w))) (w .before .before .byte-of .result) (w .before .byte-of2 .result)
+leads w =
+    let a = (start (known w)) .args in
+    let key = w .before .before .byte-of in
+    lead-is (a .rec .now) (a .at) (next w) (w .before .byte-of2 .result) (key .result) (textBytes (name w)) (named (known w)) (key .ensures)
+
+lead-wide : (w : tie.After-column-width Inv-loop μ-loop) → length (lead w) ≡ 27
+lead-wide w = ap length (leads w) ∙ schema-led-long (name w) (packed (known w)) (w .before .before .byte-of .result) (w .before .byte-of2 .result)
 
 name-at-requires : tie.Need-name-at-requires Inv-loop μ-loop
 name-at-requires c κs = search needs
@@ -108,25 +132,22 @@ add-q c = omega (arith, schema (known c) .inside)
 
 loop-holds : tie.Need-loop-holds Inv-loop μ-loop
 loop-holds c =
-    let w = c in
-    let k = known w in
+    let k = known c in
     let s = start k in
-    let y = w .before .before .before .before .before .write-name in
-    let n = w .before .byte-of2 in
-    let key = w .before .before .byte-of in
-    let e = lead-is (s .args .rec .now) (s .args .at) (k .before .name .given .0 .1 .0) (n .result) (key .result) (textBytes (k .before .name .given .0 .0)) (named k) (key .ensures) in
-    schema-start (s .args .p) (s .pre .0) (s .args .rec .now) (bytes k) (schemaLead (s .args .rec .now) (s .args .at) (k .before .name .given .0 .1 .0) (w .before .byte-of2 .result)) (w .before .byte-of2 .result) (k .before .name .given .0 .1 .0 + 2) (within w) _
-    (ap length e ∙ schema-led-long (s .args .p) (s .args .out .now) (s .pre .1) (s .pre .2) (k .before .name .given .0 .0) (packed k) (y .last .0) (y .ensures) (key .result) (n .result))
-    (schema-led (s .args .p) (s .args .out .now) (s .pre .1) (s .pre .2) (k .before .name .given .0 .0) (packed k) (y .last .0) (y .ensures) (key .result) (n .result) ∙ ap (λ (x : List ℕ). x ++ drop 27 (replicate (schemaWidth (s .args .p)) 0)) (sym e))
-    (subst (λ (m : ℕ). isGot (times (columnAt (s .args .rec .now)) m (k .before .name .given .0 .1 .0 + 2)) ≡ true) (sym (n .ensures)) (schema k .columns))
+    let a = s .args in
+    let y = c .before .before .before .before .before .write-name in
+    let n = c .before .byte-of2 in
+    let key = c .before .before .byte-of in
+    schema-start (a .p) (a .rec .now) (lead c) (n .result) (next c + 2) (s .pre .0) (bytes k) (within c) _ (lead-wide c)
+    (schema-led (a .p) (a .out .now) (s .pre .1) (s .pre .2) (name c) (packed k) (y .last .0) (y .ensures) (key .result) (n .result)
+    ∙ ap (λ (x : List ℕ). x ++ drop 27 (replicate (schemaWidth (a .p)) 0)) (sym (leads c)))
+    (subst (λ (m : ℕ). isGot (times (columnAt (a .rec .now)) m (next c + 2)) ≡ true) (sym (n .ensures)) (schema k .columns))
 
 add-to : tie.Need-add-to Inv-loop μ-loop
 add-to c =
-    let l = c .before in
-    let w = l .before in
-    let k = known w in
-    let s = start k in
-    omega (arith, column-room (s .args .p) (s .pre .0) (s .args .rec .now) (bytes k) (schemaLead (s .args .rec .now) (s .args .at) (k .before .name .given .0 .1 .0) (w .before .byte-of2 .result)) (w .before .byte-of2 .result) (k .before .name .given .0 .1 .0 + 2) (within w) (l .loop .out) (l .loop .left) (l .loop .from) (l .loop .q) (l .loop .inv) (c .loop-test .taken) (w .column-width .result) (w .column-width .ensures), schema-most (s .args .p) (s .pre .0 .known))
+    let w = c .before .before in
+    let s = start (known w) in
+    omega (arith, column-room (c .before .loop .inv) (c .loop-test .taken) (w .column-width .result) (w .column-width .ensures), schema-most (s .args .p) (s .pre .0 .known))
 
 sub-write-column : tie.Need-sub-write-column Inv-loop μ-loop
 sub-write-column c = search needs
@@ -136,19 +157,13 @@ part-write-column-start c = search needs
 
 part-write-column-end : tie.Need-part-write-column-end Inv-loop μ-loop
 part-write-column-end c =
-    let l = c .before in
-    let w = l .before in
-    let k = known w in
-    let s = start k in
-    omega (arith, column-inside (s .args .p) (s .pre .0) (s .args .rec .now) (bytes k) (schemaLead (s .args .rec .now) (s .args .at) (k .before .name .given .0 .1 .0) (w .before .byte-of2 .result)) (w .before .byte-of2 .result) (k .before .name .given .0 .1 .0 + 2) (within w) (l .loop .out) (l .loop .left) (l .loop .from) (l .loop .q) (l .loop .inv) (c .loop-test .taken) (w .column-width .result) (w .column-width .ensures))
+    let w = c .before .before .column-width in
+    omega (arith, column-inside (c .before .loop .inv) (c .loop-test .taken) (w .result) (w .ensures))
 
 write-column-requires : tie.Need-write-column-requires Inv-loop μ-loop
 write-column-requires c κs =
-    let l = c .before .before in
-    let w = l .before in
-    let k = known w in
-    let s = start k in
-    column-requires (s .args .p) (s .pre .0) (s .args .rec .now) (bytes k) (schemaLead (s .args .rec .now) (s .args .at) (k .before .name .given .0 .1 .0) (w .before .byte-of2 .result)) (w .before .byte-of2 .result) (k .before .name .given .0 .1 .0 + 2) (within w) (l .loop .out) (l .loop .left) (l .loop .from) (l .loop .q) (l .loop .inv) (c .before .loop-test .taken) (w .column-width .result) (w .column-width .ensures)
+    let w = c .before .before .before .column-width in
+    column-requires (c .before .before .loop .inv) (c .before .loop-test .taken) (w .result) (w .ensures)
 
 sub-left : tie.Need-sub-left Inv-loop μ-loop
 sub-left c = search needs
@@ -158,33 +173,18 @@ loop-less c = search needs
 
 loop-again : tie.Need-loop-again Inv-loop μ-loop
 loop-again c =
-    let l = c .before .before .before .before .before in
-    let w = l .before in
-    let k = known w in
-    let s = start k in
-    schema-next (s .args .p) (s .pre .0) (s .args .rec .now) (bytes k) (schemaLead (s .args .rec .now) (s .args .at) (k .before .name .given .0 .1 .0) (w .before .byte-of2 .result)) (w .before .byte-of2 .result) (k .before .name .given .0 .1 .0 + 2) (within w) (l .loop .out) (l .loop .left) (l .loop .from) (l .loop .q) (l .loop .inv) (c .before .before .before .before .loop-test .taken) (w .column-width .result) (w .column-width .ensures) (c .before .before .write-column .last .0) (c .before .before .write-column .result) (c .before .before .write-column .ensures .0) (c .before .before .write-column .ensures .1)
+    let t = c .before .before .before .before in
+    let w = t .before .before .column-width in
+    let y = c .before .before .write-column in
+    schema-next (t .before .loop .inv) (t .loop-test .taken) (w .result) (w .ensures) (y .last .0) (y .result) (y .ensures .0) (y .ensures .1)
 
 same-length : tie.Need-same-length Inv-loop μ-loop
-same-length c =
-    let l = c .before in
-    let w = l .before in
-    let k = known w in
-    let s = start k in
-    schema-inside (s .args .p) (s .pre .0) (s .args .rec .now) (bytes k) (schemaLead (s .args .rec .now) (s .args .at) (k .before .name .given .0 .1 .0) (w .before .byte-of2 .result)) (w .before .byte-of2 .result) (k .before .name .given .0 .1 .0 + 2) (within w) (l .loop .out) (l .loop .left) (l .loop .from) (l .loop .q) (l .loop .inv) ∙ sym (s .pre .1)
+same-length c = schema-inside (c .before .loop .inv) ∙ sym ((start (known (c .before .before))) .pre .1)
 
 returns-2 : tie.Need-returns-2 Inv-loop μ-loop
 returns-2 c =
-    let l = c .before in
-    let w = l .before in
-    let k = known w in
-    let s = start k in
-    let y = w .before .before .before .before .before .write-name in
-    let n = w .before .byte-of2 in
-    let key = w .before .before .byte-of in
-    let e = lead-is (s .args .rec .now) (s .args .at) (k .before .name .given .0 .1 .0) (n .result) (key .result) (textBytes (k .before .name .given .0 .0)) (named k) (key .ensures) in
-    schema-written (s .args .p) (s .args .rec .now) (textBytes (k .before .name .given .0 .0)) (s .args .at) (k .before .name .given .0 .1 .0) (key .result) (n .result) (schema k) (key .ensures) (n .ensures) _ e
-    (ap length e ∙ schema-led-long (s .args .p) (s .args .out .now) (s .pre .1) (s .pre .2) (k .before .name .given .0 .0) (packed k) (y .last .0) (y .ensures) (key .result) (n .result))
-    (l .loop .out) (l .loop .left) (l .loop .from) (l .loop .q) (l .loop .inv) (c .loop-test .left)
+    let w = c .before .before in
+    schema-written (schema (known w)) (w .before .before .byte-of .ensures) (w .before .byte-of2 .ensures) (leads w) (lead-wide w) (c .before .loop .inv) (c .loop-test .left)
 
 pub write-schema-spec : {M : Type 1} → statement M
 write-schema-spec =

@@ -34,12 +34,15 @@ enough : (u : tie.Else1) → length (values (u .before .before .before .before))
 enough u = omega (arith, u .if1 .left, counted (u .before), u .before .before .before .before .pre .3)
 
 -- 22 was asked
-alike : (j : tie.Joined2)
-    → otherCount (mapOf (j .before .before .before .before .before .args .rec .now) (j .before .before .before .before .before .args .m)) (length (values (j .before .before .before .before .before))) ≡ false
+abbrev begun : tie.Joined2 → tie.Start
+begun j = j .before .before .before .before .before
+
+alike : (j : tie.Joined2) → let b = begun j in otherCount (mapOf (b .args .rec .now) (b .args .m)) (length (values b)) ≡ false
 alike j =
-    let b = j .before .before .before .before .before in
-    counted-alike (b .args .rec .now) (b .args .m) (b .pre .2) (length (values b))
-    (λ t. ⊎-elim (λ w. w .2 .left ∙ sym (b .pre .3)) (λ w. absurd (true≢false (sym t ∙ w .left))) (j .if2 .came))
+    let b = begun j in
+    let n = length (values b) in
+    counted-alike (b .args .rec .now) (b .args .m) (b .pre .2) n
+    (λ t. ⊎-elim {C = b .args .m .count ≡ n} (λ w. w .2 .left ∙ sym (b .pre .3)) (λ w. absurd (true≢false (sym t ∙ w .left))) (j .if2 .came))
 
 returns : tie.Need-returns
 returns c =
@@ -51,7 +54,9 @@ returns-2 : tie.Need-returns-2
 returns-2 c =
     let u = c .before .before in
     let b = u .before .before .before .before .before in
-    other-count _ _ (values b) (enough (u .before)) (counted-other (b .args .rec .now) (b .args .m) (b .pre .2) (length (values b)) (u .if2 .taken) (λ e. c .if3 .taken (e ∙ b .pre .3)))
+    let n = length (values b) in
+    other-count _ _ (values b) (enough (u .before))
+    (counted-other (b .args .rec .now) (b .args .m) (b .pre .2) n (u .if2 .taken) (λ e. c .if3 .taken (e ∙ b .pre .3)))
 
 fill-requires : tie.Need-fill-requires
 fill-requires c κs = search needs

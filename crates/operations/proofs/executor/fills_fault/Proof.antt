@@ -16,7 +16,9 @@ use Rattle.operations.proofs.executor.fills_fault.Statement.{statement}
 use Rattle.operations.proofs.executor.fills_fault.Tie as tie
 
 abbrev Inv-loop : tie.InvT-loop
-Inv-loop table p rec m at n left₀ q₀ i₀ left q i = (i + left ≡ n) × (isGot (times (valuesAt rec) left q) ≡ true) × (fillsFault (readTable p table) (mapOf rec m) i (rowsAt rec left q) ≡ fillsFault (readTable p table) (mapOf rec m) 0 (rowsAt rec n at))
+Inv-loop table p rec m at n left₀ q₀ i₀ left q i =
+    let t = readTable p table in
+    (i + left ≡ n) × (isGot (times (valuesAt rec) left q) ≡ true) × (fillsFault t (mapOf rec m) i (rowsAt rec left q) ≡ fillsFault t (mapOf rec m) 0 (rowsAt rec n at))
 
 abbrev μ-loop : tie.MeasureT-loop
 μ-loop table p rec m at n left₀ q₀ i₀ left q i = left
@@ -50,7 +52,8 @@ returns c =
     let f = a .before in
     let o = f .before in
     let l = o .before .before .loop in
-    row-refused _ _ _ (l .left) (l .q) (l .i) _ (l .inv .2) (o .before .loop-test .taken) (l .inv .1) _ (o .byte-of .ensures) _ (f .fill-fault .ensures) _ (a .is-accepted .ensures) (not-true _ (c .if1 .taken))
+    row-refused _ _ _ (l .left) (l .q) (l .i) _ (l .inv .2) (o .before .loop-test .taken) (l .inv .1) _ (o .byte-of .ensures) _ (f .fill-fault .ensures) _ (a .is-accepted .ensures)
+    (not-true _ (c .if1 .taken))
 
 values-end-requires : tie.Need-values-end-requires Inv-loop μ-loop
 values-end-requires c κs = search needs
@@ -87,7 +90,8 @@ loop-again c =
     let f = a .before in
     let o = f .before in
     let l = o .before .before .loop in
-    let r = row-passed _ _ _ (l .left) (l .q) (l .i) _ (l .inv .2) (o .before .loop-test .taken) (l .inv .1) _ (o .byte-of .ensures) _ (f .fill-fault .ensures) _ (a .is-accepted .ensures) (not-false _ (v .before .if1 .left)) _ _ (v .values-end .ensures) (c .before .e .given .1) in
+    let r = row-passed _ _ _ (l .left) (l .q) (l .i) _ (l .inv .2) (o .before .loop-test .taken) (l .inv .1) _ (o .byte-of .ensures) _ (f .fill-fault .ensures)
+    _ (a .is-accepted .ensures) (not-false _ (v .before .if1 .left)) _ _ (v .values-end .ensures) (c .before .e .given .1) in
     (omega (arith, o .before .loop-test .taken, l .inv .0), r .0, r .1)
 
 returns-3 : tie.Need-returns-3 Inv-loop μ-loop

@@ -45,7 +45,9 @@ returns-2 c =
     let l = t .before .loop in
     let u = t .before .before .before in
     let b = u .before .before .before in
-    map-range (b .args .columns) (b .args .rec .now) (l .i) _ (t .loop-test .taken) (b .pre .inside) (c .if2 .taken) ∙ l .inv .1 ∙ whole-map (b .args .rec .now) (b .args .m) (b .args .columns) (not-false _ (u .if1 .left))
+    map-range (b .args .columns) (b .args .rec .now) (l .i) _ (t .loop-test .taken) (b .pre .inside) (c .if2 .taken)
+    ∙ l .inv .1
+    ∙ whole-map (b .args .rec .now) (b .args .m) (b .args .columns) (not-false _ (u .if1 .left))
 
 sub-has-byte : tie.Need-sub-has-byte Inv-loop μ-loop
 sub-has-byte c = omega arith
@@ -62,7 +64,9 @@ returns-3 c =
     let l = t .before .loop in
     let u = t .before .before .before in
     let b = u .before .before .before in
-    map-twice (b .args .columns) (b .args .rec .now) (l .i) _ (t .loop-test .taken) (b .pre .inside) (a .before .if2 .left) (sym (c .if3 .taken) ∙ a .has-byte .ensures) ∙ l .inv .1 ∙ whole-map (b .args .rec .now) (b .args .m) (b .args .columns) (not-false _ (u .if1 .left))
+    map-twice (b .args .columns) (b .args .rec .now) (l .i) _ (t .loop-test .taken) (b .pre .inside) (a .before .if2 .left) (sym (c .if3 .taken) ∙ a .has-byte .ensures)
+    ∙ l .inv .1
+    ∙ whole-map (b .args .rec .now) (b .args .m) (b .args .columns) (not-false _ (u .if1 .left))
 
 loop-less : tie.Need-loop-less Inv-loop μ-loop
 loop-less c = omega arith
@@ -81,7 +85,9 @@ returns-4 c =
     let l = c .before .loop in
     let u = c .before .before .before in
     let b = u .before .before .before in
-    sym (ap (mapFault (b .args .columns)) (part-none (b .args .rec .now) (l .i) _ (c .loop-test .left))) ∙ l .inv .1 ∙ whole-map (b .args .rec .now) (b .args .m) (b .args .columns) (not-false _ (u .if1 .left))
+    sym (ap (mapFault (b .args .columns)) (part-none (b .args .rec .now) (l .i) _ (c .loop-test .left)))
+    ∙ l .inv .1
+    ∙ whole-map (b .args .rec .now) (b .args .m) (b .args .columns) (not-false _ (u .if1 .left))
 
 pub is-bad-map-spec : {M : Type 1} → statement M
 is-bad-map-spec =

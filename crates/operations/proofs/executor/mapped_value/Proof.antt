@@ -16,7 +16,8 @@ use Rattle.operations.proofs.executor.mapped_value.Statement.{statement
 use Rattle.operations.proofs.executor.mapped_value.Tie as tie
 
 abbrev Inv-loop : tie.InvT-loop
-Inv-loop rec map-at map-count at count j end i₀ left₀ next₀ i left next = (i ≤ end) × (mapped (take (end - i) (drop i rec)) (valuesFrom rec left next) j ≡ mapped (take map-count (drop map-at rec)) (valuesFrom rec count at) j)
+Inv-loop rec map-at map-count at count j end i₀ left₀ next₀ i left next =
+    (i ≤ end) × (mapped (take (end - i) (drop i rec)) (valuesFrom rec left next) j ≡ mapped (take map-count (drop map-at rec)) (valuesFrom rec count at) j)
 
 abbrev μ-loop : tie.MeasureT-loop
 μ-loop rec map-at map-count at count j end i₀ left₀ next₀ i left next = left
@@ -47,8 +48,10 @@ returns c =
     let v = t .before .before in
     let w = v .before .before in
     let l = w .before .loop in
-    let e = v .value-at .ensures in
-    (mapped-here _ (l .i) _ (l .left) _ _ _ (l .inv .1) _ e (w .loop-test .taken) (w .before .before .before .pre) (ltb-true _ _ (v .before .if1 .taken)) _ _ (t .cell .given .1) (c .if2 .taken), cell-proper _ (l .left) _ _ e _ _ (t .cell .given .1))
+    let e = v .value-at .ensures in (
+      mapped-here _ (l .i) _ (l .left) _ _ _ (l .inv .1) _ e (w .loop-test .taken) (w .before .before .before .pre) (ltb-true _ _ (v .before .if1 .taken)) _ _ (t .cell .given .1) (c .if2 .taken),
+      cell-proper _ (l .left) _ _ e _ _ (t .cell .given .1),
+    )
 
 enum-told : tie.Need-enum-told Inv-loop μ-loop
 enum-told c = search needs
@@ -79,7 +82,8 @@ loop-again c =
     let w = v .before .before in
     let l = w .before .loop in (
       omega arith,
-      mapped-past _ (l .i) _ (l .left) _ _ _ (l .inv .1) _ (v .value-at .ensures) (w .loop-test .taken) (w .before .before .before .pre) (ltb-true _ _ (v .before .if1 .taken)) _ _ (t .cell .given .1) (c .if2 .left),
+      mapped-past _ (l .i) _ (l .left) _ _ _ (l .inv .1) _ (v .value-at .ensures) (w .loop-test .taken) (w .before .before .before .pre) (ltb-true _ _ (v .before .if1 .taken))
+          _ _ (t .cell .given .1) (c .if2 .left),
     )
 
 returns-3 : tie.Need-returns-3 Inv-loop μ-loop

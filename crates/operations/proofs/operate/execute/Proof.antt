@@ -26,8 +26,11 @@ ask-requires c κs =
     let k = c .before .before .byte-of in
     let w = c .before .before .before .before .before .walk in
     let b = c .before .before .before .before .before .before .before .before in
-    let a = b .args in
-    (laid-store (a .p) (a .places) (a .s .now) (b .pre .0), c .before .if1 .taken, operands-got (a .p) (a .rec .now) (w .result) (w .ensures) _ (c .before .before .before .enum-told2 .given .1) (k .result) (k .ensures))
+    let a = b .args in (
+      laid-store (a .p) (a .places) (a .s .now) (b .pre .0),
+      c .before .if1 .taken,
+      operands-got (a .p) (a .rec .now) (w .result) (w .ensures) _ (c .before .before .before .enum-told2 .given .1) (k .result) (k .ensures),
+    )
 
 same-length : tie.Need-same-length
 same-length c = search needs
@@ -38,7 +41,8 @@ returns c =
     let w = c .before .before .before .before .before .before .walk in
     let b = c .before .before .before .before .before .before .before .before .before in
     let a = b .args in
-    read-only (a .p) (a .rec .now) (w .result) (w .ensures) _ (c .before .before .before .before .enum-told2 .given .1) (k .result) (k .ensures) (a .places) (a .s .now) _ (b .pre .0) (c .before .before .if1 .taken) (c .ask .ensures)
+    read-only (a .p) (a .rec .now) (w .result) (w .ensures) _ (c .before .before .before .before .enum-told2 .given .1) (k .result) (k .ensures)
+    (a .places) (a .s .now) _ (b .pre .0) (c .before .before .if1 .taken) (c .ask .ensures)
 
 write-requires : tie.Need-write-requires
 write-requires c κs =
@@ -64,7 +68,8 @@ returns-3 c =
     let w = c .before .before .before .before .before .before .before .before .walk in
     let b = c .before .before .before .before .before .before .before .before .before .before .before in
     let a = b .args in
-    written (a .p) (a .rec .now) (w .result) (w .ensures) _ (c .before .before .before .before .before .before .enum-told2 .given .1) (k .result) (k .ensures) (a .places) (a .s .now) _ _ (c .before .before .write .ensures)
+    written (a .p) (a .rec .now) (w .result) (w .ensures) _ (c .before .before .before .before .before .before .enum-told2 .given .1) (k .result) (k .ensures)
+    (a .places) (a .s .now) _ _ (c .before .before .write .ensures)
 
 pub execute-spec : {M : Type 1} → statement M
 execute-spec =

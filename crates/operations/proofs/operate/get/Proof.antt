@@ -2,7 +2,8 @@
 use native.Mathlib.Omega.{arith}
 use borrow.Author.Needs.{needs}
 use Rattle.rules.specs.Request.{Get}
-use Rattle.operations.proofs.Asked.{name-proper, keys-inside, keys-unbroken, get-told}
+use Rattle.operations.proofs.Operands.{packed, keys-unnamed, keys-inside}
+use Rattle.operations.proofs.Asked.{get-told}
 use Rattle.operations.proofs.operate.get.Statement.{statement}
 use Rattle.operations.proofs.operate.get.Tie as tie
 
@@ -32,7 +33,7 @@ found-count-requires c κs =
     let m = c .before .before .before .before .name-at in
     let b = c .before .before .before .before .before .before .before in
     let a = b .args in
-    (b .pre .0, name-proper (a .rec .now) (a .at) (m .result) (m .ensures) (x .0 .0) (x .0 .1 .0) (x .1))
+    (b .pre .0, packed (a .rec .now) (a .at) (m .result) (m .ensures) (x .0 .0) (x .0 .1 .0) (x .1))
 
 accepted-requires : tie.Need-accepted-requires
 accepted-requires c κs = search needs
@@ -58,7 +59,7 @@ returns-2 c =
     let m = c .before .before .before .name-at in
     let b = c .before .before .before .before .before .before in
     let a = b .args in
-    absurd (keys-unbroken (a .rec .now) (a .at) (m .result) (m .ensures) Get _ (c .before .enum-told .given .1) (b .pre .1))
+    absurd (keys-unnamed (a .rec .now) (a .at) (m .result) (m .ensures) Get _ (c .before .enum-told .given .1) (b .pre .1))
 
 pub get-spec : {M : Type 1} → statement M
 get-spec =

@@ -1,6 +1,7 @@
 -- `operations::operate::scan` meets its contract. Assumes nothing.
 use borrow.Author.Needs.{needs}
-use Rattle.operations.proofs.Asked.{name-proper, scan-unbroken, scan-says}
+use Rattle.operations.proofs.Operands.{packed}
+use Rattle.operations.proofs.Asked.{scan-unbroken, scan-says}
 use Rattle.operations.proofs.operate.scan.Statement.{statement}
 use Rattle.operations.proofs.operate.scan.Tie as tie
 
@@ -16,7 +17,7 @@ scan-requires c κs =
     let m = c .before .before .before .name-at in
     let b = c .before .before .before .before .before .before in
     let a = b .args in
-    (b .pre .0, name-proper (a .rec .now) (a .at) (m .result) (m .ensures) (x .0 .0) (x .0 .1 .0) (x .1))
+    (b .pre .0, packed (a .rec .now) (a .at) (m .result) (m .ensures) (x .0 .0) (x .0 .1 .0) (x .1))
 
 sub-accepted : tie.Need-sub-accepted
 sub-accepted c = search needs

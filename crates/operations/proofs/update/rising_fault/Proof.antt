@@ -23,7 +23,8 @@ use Rattle.operations.proofs.update.rising_fault.Statement.{statement}
 use Rattle.operations.proofs.update.rising_fault.Tie as tie
 
 abbrev Inv-loop : tie.InvT-loop
-Inv-loop rec at n left₀ q₀ i₀ last₀ left q i last = (isGot (times (pairAt rec) left q) ≡ true) × (risingFrom i (held last) (pairsAt rec left q) ≡ risingFault 0 (pairsAt rec n at)) × ProperCell last × (i + left ≡ n)
+Inv-loop rec at n left₀ q₀ i₀ last₀ left q i last =
+    (isGot (times (pairAt rec) left q) ≡ true) × (risingFrom i (held last) (pairsAt rec left q) ≡ risingFault 0 (pairsAt rec n at)) × ProperCell last × (i + left ≡ n)
 
 abbrev μ-loop : tie.MeasureT-loop
 μ-loop rec at n left₀ q₀ i₀ last₀ left q i last = left
@@ -66,7 +67,8 @@ returns-2 c =
     let s = v .before .before .before .before in
     let rec = now (s .args .rec) in
     let g = pair-there rec (l .left) (l .q) (v .before .loop-test .taken) (l .inv .0) in
-    rising-over rec (l .left) (l .q) g (v .value-at .result) (v .value-at .ensures) (o .0 .0) (o .0 .1 .0) (o .1) (l .i) (held (l .last)) _ (l .inv .1) (c .before .before .if1 .taken) (ap isLt (sym (c .before .compare .ensures)) ∙ not-less (c .before .compare .result) (c .match2 .keys2))
+    rising-over rec (l .left) (l .q) g (v .value-at .result) (v .value-at .ensures) (o .0 .0) (o .0 .1 .0) (o .1) (l .i) (held (l .last)) _ (l .inv .1)
+    (c .before .before .if1 .taken) (ap isLt (sym (c .before .compare .ensures)) ∙ not-less (c .before .compare .result) (c .match2 .keys2))
 
 values-end-requires : tie.Need-values-end-requires Inv-loop μ-loop
 values-end-requires c κs = search needs
@@ -112,7 +114,8 @@ loop-again c =
     let ee = row-end rec (l .left) (l .q) g (o .0 .1 .0) ea (w .result) (e .0 .0) (w .ensures) (e .1) in (
       others-left rec (l .left) (l .q) g (e .0 .0) ee,
       rising-again rec (l .left) (l .q) g (v .value-at .result) (v .value-at .ensures) (o .0 .0) (o .0 .1 .0) (o .1) (l .i) (held (l .last)) _ (l .inv .1) (e .0 .0) ee
-          (λ h. ⊎-elim {C = before (held (l .last)) (held (o .0 .0)) ≡ true} (λ x. sym (less-is (x .1 .result) _ (x .1 .ensures) (x .3 .given .1))) (λ x. absurd (omega (arith, x .left))) (c .before .before .before .before .if1 .came)),
+          (λ h. ⊎-elim {C = before (held (l .last)) (held (o .0 .0)) ≡ true} (λ x. sym (less-is (x .1 .result) _ (x .1 .ensures) (x .3 .given .1)))
+          (λ x. absurd (omega (arith, x .left))) (c .before .before .before .before .if1 .came)),
       cell-proper _ 0 _ _ (v .value-at .ensures) (o .0 .0) (o .0 .1 .0) (o .1),
       omega arith,
     )

@@ -20,7 +20,8 @@ use Rattle.operations.proofs.update.size_fault.Statement.{statement}
 use Rattle.operations.proofs.update.size_fault.Tie as tie
 
 abbrev Inv-loop : tie.InvT-loop
-Inv-loop table rec at n columns left₀ q₀ i₀ left q i = (isGot (times (pairAt rec) left q) ≡ true) × ((t : Table) → columns ≡ length (t .columns) → sizeFault t i (pairsAt rec left q) ≡ sizeFault t 0 (pairsAt rec n at)) × (i + left ≡ n)
+Inv-loop table rec at n columns left₀ q₀ i₀ left q i =
+    (isGot (times (pairAt rec) left q) ≡ true) × ((t : Table) → columns ≡ length (t .columns) → sizeFault t i (pairsAt rec left q) ≡ sizeFault t 0 (pairsAt rec n at)) × (i + left ≡ n)
 
 abbrev μ-loop : tie.MeasureT-loop
 μ-loop table rec at n columns left₀ q₀ i₀ left q i = left
@@ -127,7 +128,8 @@ returns-4 c =
     let l = c .before .loop in
     let s = c .before .before .before .before .before in
     let t = readTable (s .args .p) (now (s .args .table)) in
-    sym (size-none t (l .i)) ∙ ap (sizeFault t (l .i)) (sym (pairs-none (now (s .args .rec)) (l .left) (l .q) (c .loop-test .left))) ∙ l .inv .1 t (c .before .before .column-count .ensures ∙ count-byte (s .args .p) (now (s .args .table)))
+    sym (size-none t (l .i)) ∙ ap (sizeFault t (l .i)) (sym (pairs-none (now (s .args .rec)) (l .left) (l .q) (c .loop-test .left)))
+    ∙ l .inv .1 t (c .before .before .column-count .ensures ∙ count-byte (s .args .p) (now (s .args .table)))
 
 pub size-fault-spec : {M : Type 1} → statement M
 size-fault-spec =
