@@ -7,25 +7,23 @@ use mathlib.Core.List.{List, [], _∷_, map}
 use mathlib.Core.Logic.{inl, inr}
 use mathlib.Core.Option.{Option, none, some, Option·some-injective, Option·none-ne-some}
 use lib.Dec.{eqb}
-use lib.ListN.{length, take, length-map}
-use lib.Seq.{length-take-le}
+use lib.ListN.{length, take}
 use borrow.Author.Tests.{eqb-true}
 use Rattle.values.specs.Basic.{isNone, orDefault, _orElse_}
-use Rattle.values.specs.Meaning.{held, ProperCell}
+use Rattle.values.specs.Meaning.{held}
 use Rattle.values.specs.Read.{got, valueAt}
 use Rattle.values.specs.Sorted.{In, All}
 use Rattle.values.specs.Value.{Value, normalised}
 use Rattle.values.specs.declared.value.Cell.{Cell}
-use Rattle.values.proofs.Cells.{proper-storable}
 use Rattle.values.proofs.Reading.{value-read}
 use Rattle.rules.specs.Rows.{mapped, given, consTo, fill, fillFault, fullRow}
-use Rattle.rules.specs.Sound.{every, canonical, canonicalDefault, goodColumn, goodTable}
+use Rattle.rules.specs.Sound.{canonicalDefault, goodColumn, goodTable}
 use Rattle.rules.specs.State.{Column, Table}
 use Rattle.rules.specs.declared.profile.Profile.{Profile}
 use Rattle.rules.proofs.Lists.{all-at, nth-in}
-use Rattle.rules.proofs.Tests.{all-head, all-tail, and-both, every-at, first-none}
-use Rattle.rules.proofs.Trip.{canonical-normal, range-canonical}
-use Rattle.laid.specs.Row.{cellsOf, NormalCell, ProperRow}
+use Rattle.rules.proofs.Tests.{all-head, all-tail, every-at, first-none}
+use Rattle.rules.proofs.Trip.{canonical-normal}
+use Rattle.laid.specs.Row.{cellsOf, NormalCell}
 use Rattle.laid.specs.declared.row.Row.{Row}
 use Rattle.operations.specs.Mapped.{filledOf}
 use Rattle.records.specs.Reading.{times, byteAt}
@@ -95,22 +93,6 @@ default-normal p t g c m v e =
 pub cells-normal : (cs : List Cell) → All Normal (map held cs) → All NormalCell cs
 cells-normal [] h = tt
 cells-normal (c ∷ cs) h = (h .0, cells-normal cs (h .1))
-
-cells-canonical : (cs : List Cell) → All ProperCell cs → All NormalCell cs → every canonical (map held cs) ≡ true
-unfolding every
-cells-canonical [] h n = refl
-cells-canonical (c ∷ cs) h n =
-    and-both
-    (subst (λ (v : Value). canonical v ≡ true) (n .0) (range-canonical (held c) (proper-storable (c .value) (h .0) .inside)))
-    (cells-canonical cs (h .1) (n .1))
-
-pub row-canonical : (r : Row) → ProperRow r → All NormalCell (take (r .count) (r .cells)) → every canonical (cellsOf r) ≡ true
-unfolding cellsOf
-row-canonical r h n = cells-canonical (take (r .count) (r .cells)) (h .proper) n
-
-pub row-length : (r : Row) → ProperRow r → length (cellsOf r) ≡ r .count
-unfolding cellsOf
-row-length r h = length-map (take (r .count) (r .cells)) held ∙ length-take-le (r .count) (r .cells) (h .few)
 
 -- ---- a row as the code fills it, where it is not refused
 

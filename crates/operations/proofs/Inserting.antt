@@ -4,7 +4,7 @@ use Prim.Native.Nat.{ℕ, suc, _+_, _-_, _≤_, _<_}
 use mathlib.Core.Path.{_≡_, refl, sym, ap, _∙_, subst}
 use mathlib.Core.Bool.{true, false}
 use mathlib.Core.List.{List, [], _∷_, map}
-use mathlib.Core.Option.{Option, none, some}
+use mathlib.Core.Option.{Option, none}
 use native.Mathlib.Numerals.{add-one}
 use native.Mathlib.Omega.{arith}
 use lib.Dec.{eqb}
@@ -14,14 +14,13 @@ use Rattle.values.specs.Value.{Value}
 use Rattle.rules.specs.declared.profile.Profile.{Profile}
 use Rattle.rules.specs.declared.answer.Answer.{Answer}
 use Rattle.rules.specs.Refusal.{numberOf}
-use Rattle.rules.specs.State.{Table, State, tableNamed}
+use Rattle.rules.specs.State.{Table, State}
 use Rattle.rules.specs.Layout.{lists, parse, readTable, unknown}
 use Rattle.rules.specs.Request.{said, ok}
 use Rattle.rules.specs.Rows.{given, fill, fillFault, fillsFault, fullRow}
 use Rattle.rules.specs.Sound.{goodTable}
 use Rattle.rules.specs.Step.{apply, applyAll, Outcome, numbered, inTurn, insertRow}
 use Rattle.rules.proofs.Asked.{Ready, Good}
-use Rattle.rules.proofs.Catalog.{stored-named}
 use Rattle.rules.proofs.Keeps.{insert-keeps}
 use Rattle.rules.proofs.Kept.{valid-keeps}
 use Rattle.rules.proofs.Tests.{orElse-none, at-none, by-option}
@@ -34,7 +33,7 @@ use Rattle.laid.specs.declared.row.Row.{Row}
 use Rattle.checks.proofs.Fitting.{rec-bytes, table-is}
 use Rattle.laid.proofs.RowFacts.{table-held}
 use Rattle.laid.proofs.Stores.{store-valid, store-inside, laid-store}
-use Rattle.store.proofs.Written.{reads-back, store-again}
+use Rattle.store.proofs.Written.{reads-back, store-again, row-ready, own-named}
 use Rattle.operations.specs.Got.{isGot}
 use Rattle.operations.specs.Mapped.{mapOf, filledOf, rowsAt}
 use Rattle.records.specs.Reading.{times}
@@ -43,7 +42,7 @@ use Rattle.records.specs.Walked.{walkedAs}
 use Rattle.operations.specs.declared.executor.Map.{Map}
 use Rattle.records.specs.declared.record.Walked.the-variants.{Ends}
 use Rattle.records.specs.declared.record.Walked.{Walked}
-use Rattle.operations.proofs.FullRows.{values-normal, row-canonical, row-length, full-count, full-cells, full-normal}
+use Rattle.operations.proofs.FullRows.{values-normal, full-count, full-cells, full-normal}
 use Rattle.operations.proofs.InTurn.{Remains, remains-start, stored-end, stored-stops, stored-next}
 use Rattle.operations.proofs.Mapping.{RowFirst, row-first, rows-none}
 use Rattle.operations.proofs.ValuesFrom.{values-there}
@@ -66,18 +65,12 @@ module _ (p : Profile) (R : ℕ) (s : List ℕ) (b : Store p R s) (t : ℕ) (kno
   pub table-good : goodTable p T ≡ true
   table-good = store-valid p R s b .good-tables T (table-held p R s (laid-store p R s b) t known)
 
-  own-named : tableNamed (st .tables) (T .name) ≡ some T
-  own-named = stored-named (st .tables) (store-valid p R s b .tables-sorted) T (table-held p R s (laid-store p R s b) t known)
-
   module _ (row : Row) (f : FullRow p R s t row) where
-    ready : Ready T (cellsOf row)
-    ready = (row-length row (f .proper) ∙ f .full, row-canonical row (f .proper) (f .normal))
-
     abbrev next : State
     next = applyAll ((insertRow p R T st (cellsOf row)) .changes) st
 
     next-valid : Valid p R next
-    next-valid = insert-keeps p R (λ n. Unit {0}) Ready (Good p) (Valid p R) (valid-keeps p R) T tt (cellsOf row) ready st (store-valid p R s b, own-named) .0
+    next-valid = insert-keeps p R (λ n. Unit {0}) Ready (Good p) (Valid p R) (valid-keeps p R) T tt (cellsOf row) (row-ready b f) st (store-valid p R s b, own-named b f) .0
 
     module _ (i : ℕ) (s₁ : List ℕ) (a : Answer) (h : Stored p R (numbered i (insertRow p R T st (cellsOf row))) s s₁ a) where
       pub row-store : Store p R s₁

@@ -4,7 +4,7 @@ use Prim.Native.Nat.{ℕ, _+_, _-_, _≤_, _<_}
 use mathlib.Core.Path.{_≡_, refl, sym, ap, _∙_, subst}
 use mathlib.Core.Bool.{Bool, true, false, true≢false}
 use mathlib.Core.List.{List, [], _∷_}
-use mathlib.Core.Option.{none, some, Option·some-ne-none}
+use mathlib.Core.Option.{none, Option·some-ne-none}
 use native.Mathlib.Omega.{arith}
 use lib.Dec.{eqb}
 use lib.ListN.{length, getD, take}
@@ -21,13 +21,12 @@ use Rattle.rules.specs.declared.profile.Profile.{Profile}
 use Rattle.rules.specs.declared.answer.Answer.{Answer}
 use Rattle.rules.specs.declared.answer.Refusal.the-variants.{RowSize}
 use Rattle.rules.specs.Refusal.{numberOf}
-use Rattle.rules.specs.State.{Table, State, tableNamed, keyOf, rowOf}
+use Rattle.rules.specs.State.{Table, State, keyOf, rowOf}
 use Rattle.rules.specs.Layout.{parse, unknown}
 use Rattle.rules.specs.Request.{Pair, said, ok}
 use Rattle.rules.specs.Rows.{sizeFault}
 use Rattle.rules.specs.Step.{Change, added, apply, applyAll, Outcome, numbered, inTurn, removals, sameKey, reinsert, otherKey, pair}
 use Rattle.rules.proofs.Asked.{Ready, Good}
-use Rattle.rules.proofs.Catalog.{stored-named}
 use Rattle.rules.proofs.Keeps.{pair-keeps}
 use Rattle.rules.proofs.Kept.{valid-keeps}
 use Rattle.rules.proofs.Removed.{applyAll-append, removals-come}
@@ -41,7 +40,7 @@ use Rattle.laid.specs.Store.{Store, Stored}
 use Rattle.laid.specs.declared.row.Row.{Row}
 use Rattle.laid.proofs.RowFacts.{table-held}
 use Rattle.laid.proofs.Stores.{store-valid, store-inside, laid-store}
-use Rattle.store.proofs.Written.{reads-back, store-again}
+use Rattle.store.proofs.Written.{reads-back, store-again, row-ready, own-named}
 use Rattle.operations.specs.Got.{isGot}
 use Rattle.operations.specs.Mapped.{pairsAt}
 use Rattle.records.specs.Reading.{times}
@@ -49,7 +48,7 @@ use Rattle.records.specs.Record.{valuesAt, pairAt}
 use Rattle.records.specs.Walked.{walkedAs}
 use Rattle.records.specs.declared.record.Walked.the-variants.{Ends, Breaks}
 use Rattle.records.specs.declared.record.Walked.{Walked}
-use Rattle.operations.proofs.FullRows.{Normal, values-normal, cells-normal, row-canonical, row-length}
+use Rattle.operations.proofs.FullRows.{Normal, values-normal, cells-normal}
 use Rattle.operations.proofs.InTurn.{Remains, remains-start, stored-end, stored-stops, stored-next}
 use Rattle.operations.proofs.Pairs.{PairThere, pair-there, pairs-none, row-end, row-never, size-over, size-again, others-left, old-never, old-is, old-end}
 use Rattle.checks.proofs.KeysRead.{values-end, values-got}
@@ -90,17 +89,11 @@ module _ (p : Profile) (R : ℕ) (s : List ℕ) (b : Store p R s) (t : ℕ) (old
   abbrev its : Pair
   its = record { old = old; row = cellsOf row }
 
-  own-named : tableNamed (st .tables) (T .name) ≡ some T
-  own-named = stored-named (st .tables) (store-valid p R s b .tables-sorted) T (table-held p R s (laid-store p R s b) t (f .known))
-
-  ready : Ready T (cellsOf row)
-  ready = (row-length row (f .proper) ∙ f .full, row-canonical row (f .proper) (f .normal))
-
   abbrev next : State
   next = applyAll ((pair p R T st its) .changes) st
 
   next-valid : Valid p R next
-  next-valid = pair-keeps p R (λ n. Unit {0}) Ready (Good p) (Valid p R) (valid-keeps p R) T tt its ready st (store-valid p R s b, own-named) .0
+  next-valid = pair-keeps p R (λ n. Unit {0}) Ready (Good p) (Valid p R) (valid-keeps p R) T tt its (row-ready b f) st (store-valid p R s b, own-named b f) .0
 
   module _ (i : ℕ) (s₁ : List ℕ) (a : Answer) (h : Stored p R (numbered i (pair p R T st its)) s s₁ a) where
     pair-store : Store p R s₁

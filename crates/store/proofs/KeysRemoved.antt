@@ -34,7 +34,7 @@ use Rattle.laid.specs.Row.{rowIn, tableIn, RowOf}
 use Rattle.laid.specs.Store.{LaidStore, Store, Stored}
 use Rattle.laid.proofs.Finding.{place-found, place-missing}
 use Rattle.laid.proofs.Keyed.{row-at}
-use Rattle.store.proofs.Lookups.{table-known, stored}
+use Rattle.store.proofs.Lookups.{stored}
 use Rattle.store.proofs.Outcomes.{unchanged}
 use Rattle.laid.proofs.Stores.{held-state, held-inside}
 
@@ -202,9 +202,6 @@ module _ (p : Profile) (R : ℕ) (s : List ℕ) (b : Store p R s) (n : Name) (ks
   delete-missed f a h = unchanged p R s b (delete before n ks) (no UnknownTable 0) (delete-unknown before n ks (place-missing (isNamed n) (before .tables) (sym f))) a h
 
   module _ (t : ℕ) (f : some t ≡ placeOf (isNamed n) (before .tables)) where
-    pub table-below : t < length (before .tables)
-    table-below = table-known p R s n t f
-
     module _ (r : Referrer) (e : referrerOf r ≡ rowReferenced (before .rows) n ks (before .tables)) where
       pub delete-held : r .found ≡ true → (a : Answer) → said a ≡ noCarrying RowReferenced 0 (carriedBy (textBytes (r .table)) (r .column) (held (r .key)))
           → Stored p R (delete before n ks) s s a

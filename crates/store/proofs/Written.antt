@@ -150,14 +150,14 @@ module _ {p : Profile} {R : ℕ} {s : List ℕ} (b : Store p R s) {t : ℕ} {row
   abbrev v : List Value
   v = cellsOf row
 
-  row-ready : Ready T v
+  pub row-ready : Ready T v
   unfolding cellsOf
   row-ready = (
     length-map (take (row .count) (row .cells)) held ∙ length-take-le (row .count) (row .cells) (f .proper .few) ∙ f .full,
     cells-canonical (take (row .count) (row .cells)) (f .proper .proper) (f .normal),
   )
 
-  own-named : tableNamed (st .tables) (T .name) ≡ some T
+  pub own-named : tableNamed (st .tables) (T .name) ≡ some T
   own-named = stored-named (st .tables) (store-valid p R s b .tables-sorted) T (table-held p R s (laid-store p R s b) t (f .known))
 
   with-row : (u : Bool) → rowFault p R st T u v ≡ none → Valid p R (withRows st (withRow (rowOf T v) (st .rows)))

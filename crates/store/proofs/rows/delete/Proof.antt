@@ -9,7 +9,8 @@ use Rattle.rules.specs.State.{isNamed}
 use Rattle.rules.specs.Layout.{parse}
 use Rattle.laid.specs.Catalog.{placeOf}
 use Rattle.checks.specs.Keys.{valuesFrom}
-use Rattle.store.proofs.KeysRemoved.{delete-missed, table-below, delete-held, delete-goes}
+use Rattle.store.proofs.KeysRemoved.{delete-missed, delete-held, delete-goes}
+use Rattle.store.proofs.Lookups.{table-known}
 use Rattle.store.proofs.References.{answer-is}
 use Rattle.laid.proofs.Stores.{laid-store, store-catalog}
 use Rattle.store.proofs.rows.delete.Statement.{statement}
@@ -89,7 +90,7 @@ remove-keys-requires c κs =
     let b = start (t .before .before) in
     let a = b .args in (
       laid-store (a .p) (a .places) (a .s .now) (b .pre .0),
-      table-below (a .p) (a .places) (a .s .now) (b .pre .0) (textBytes (a .name)) (keys b) (t .t .given .0 .0) (known t),
+      table-known (a .p) (a .places) (a .s .now) (textBytes (a .name)) (t .t .given .0 .0) (known t),
     )
 
 accepted-requires : tie.Need-accepted-requires
