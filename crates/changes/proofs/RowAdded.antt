@@ -14,21 +14,21 @@ use Rattle.values.specs.Basic.{isLt, keepIf, insertBy, find, isSome, nth, orDef
 use Rattle.values.specs.Bytes.{pad}
 use Rattle.values.specs.Value.{Value, null}
 use Rattle.values.specs.Cell.{nameCell, valueCell}
-use Rattle.values.specs.Records.{joined}
-use Rattle.values.specs.Counted.{Grows, grown}
-use Rattle.values.specs.Sorted.{In, countOf, insertAt}
+use Rattle.areas.specs.Records.{joined}
+use Rattle.areas.specs.Counted.{Grows, grown}
+use Rattle.areas.specs.Sorted.{In, countOf, insertAt}
 use Rattle.values.specs.declared.value.Text.{Text}
 use Rattle.values.specs.declared.value.Value as D
 use Rattle.values.specs.Meaning.{textBytes, Packed, meaning, Proper, held, ProperCell}
 use Rattle.values.specs.declared.value.Value.the-variants.{Null}
 use Rattle.values.proofs.Cells.{length-name}
-use Rattle.values.proofs.Changes.{replace-insert, length-insert-at}
-use Rattle.values.proofs.Halving.{count-le}
-use Rattle.values.proofs.Nest.{mid-back}
+use Rattle.areas.proofs.Changes.{replace-insert, length-insert-at}
+use Rattle.areas.proofs.Halving.{count-le}
+use Rattle.areas.proofs.Nest.{mid-back}
 use Rattle.values.proofs.Orders.{self, ordBytes}
-use Rattle.values.proofs.Placing.{rank, holds, insert-new}
-use Rattle.values.proofs.Records.{length-joined}
-use Rattle.values.proofs.Sorting.{find-none, in-insert-new, one-place, find-in}
+use Rattle.areas.proofs.Placing.{rank, holds, insert-new}
+use Rattle.areas.proofs.Records.{length-joined}
+use Rattle.areas.proofs.Sorting.{find-none, in-insert-new, one-place, find-in}
 use Rattle.rules.specs.declared.profile.Profile.{Profile}
 use Rattle.rules.specs.Profile.{Known, placesMost, rowWidth, rowsAt}
 use Rattle.rules.specs.State as S

@@ -13,13 +13,13 @@ use Rattle.values.specs.declared.value.Text.{Text}
 use Rattle.values.specs.declared.value.Value as D
 use Rattle.values.specs.declared.value.Cell.{Cell}
 use Rattle.values.specs.Meaning.{held, ProperCell}
-use Rattle.values.specs.Counted.{Shrinks, shrunk}
-use Rattle.values.specs.Sorted.{In, Sorted, countOf, removeRun, removeAt}
-use Rattle.values.proofs.Changes.{remove-one}
+use Rattle.areas.specs.Counted.{Shrinks, shrunk}
+use Rattle.areas.specs.Sorted.{In, Sorted, countOf, removeRun, removeAt}
+use Rattle.areas.proofs.Changes.{remove-one}
 use Rattle.values.proofs.Orders.{Ord, self, gt≢lt}
-use Rattle.values.proofs.Placing.{rank, holds-in, keep-others}
-use Rattle.values.proofs.Runs.{none-before}
-use Rattle.values.proofs.Sorting.{all-below}
+use Rattle.areas.proofs.Placing.{rank, holds-in, keep-others}
+use Rattle.areas.proofs.Runs.{none-before}
+use Rattle.areas.proofs.Sorting.{all-below}
 use Rattle.rules.specs.declared.profile.Profile.{Profile}
 use Rattle.rules.specs.Profile.{placesMost, rowWidth, rowsAt}
 use Rattle.rules.specs.State as S

@@ -13,18 +13,18 @@ use borrow.Rule.Slice.PartMut.{putMid}
 use Rattle.values.specs.Basic.{isLt, insertBy, nth}
 use Rattle.values.specs.Value.{Value, normalised, same}
 use Rattle.values.specs.Cell.{nameWidth, readValue}
-use Rattle.values.specs.Counted.{shrunk}
-use Rattle.values.specs.Sorted.{In, Sorted, replaceAt}
+use Rattle.areas.specs.Counted.{shrunk}
+use Rattle.areas.specs.Sorted.{In, Sorted, replaceAt}
 use Rattle.values.specs.declared.value.Text.{Text}
 use Rattle.values.specs.declared.value.Value as D
 use Rattle.values.specs.declared.value.Cell.{Cell}
 use Rattle.values.specs.Meaning.{textBytes, Packed, meaning, Proper, held, ProperCell}
 use Rattle.values.proofs.Cells.{normalised-twice}
-use Rattle.values.proofs.Halving.{count-same}
-use Rattle.values.proofs.Nest.{mid-back}
+use Rattle.areas.proofs.Halving.{count-same}
+use Rattle.areas.proofs.Nest.{mid-back}
 use Rattle.values.proofs.Orders.{congʳ, same-exact}
-use Rattle.values.proofs.Placing.{rank, holds, holds-in, insert-old}
-use Rattle.values.proofs.Sorting.{in-insert-new}
+use Rattle.areas.proofs.Placing.{rank, holds, holds-in, insert-old}
+use Rattle.areas.proofs.Sorting.{in-insert-new}
 use Rattle.rules.specs.declared.profile.Profile.{Profile}
 use Rattle.rules.specs.Profile.{Known, placesMost, rowWidth, entryWidth, rowsAt, entriesAt}
 use Rattle.rules.specs.State as S

@@ -10,8 +10,8 @@ use lib.Seq.{take-suc, take-at, take-take, getD-take, length-take-le, drop-drop}
 use Rattle.values.proofs.Shifts.{drop-past}
 use borrow.Rule.Slice.PartMut.{putMid}
 use Rattle.values.specs.Cell.{nameWidth, cellWidth, nameCell, valueCell}
-use Rattle.values.specs.Records.{joined, Wide}
-use Rattle.values.specs.Sorted.{All}
+use Rattle.areas.specs.Records.{joined, Wide}
+use Rattle.areas.specs.Sorted.{All}
 use Rattle.values.specs.declared.value.Text.{Text}
 use Rattle.values.specs.declared.value.Cell.{Cell}
 use Rattle.values.specs.declared.value.Value as D
@@ -19,8 +19,8 @@ use Rattle.values.specs.declared.value.Value.the-variants.{Null}
 use Rattle.values.specs.Meaning.{textBytes, Packed, meaning, Proper, held, ProperCell}
 use Rattle.values.proofs.Packing.{text-long}
 use Rattle.values.proofs.Cells.{length-name, length-value, proper-storable}
-use Rattle.values.proofs.Records.{times-lt, length-joined}
-use Rattle.values.proofs.Nest.{put-next, set-next}
+use Rattle.areas.proofs.Records.{times-lt, length-joined}
+use Rattle.areas.proofs.Nest.{put-next, set-next}
 use Rattle.rules.specs.declared.profile.Profile.{Profile}
 use Rattle.rules.specs.Profile.{rowWidth}
 use Rattle.laid.specs.declared.row.Row.{Row}

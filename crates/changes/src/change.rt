@@ -1,5 +1,7 @@
 // The three changes of a row, through which every write goes: a row added, replaced, removed, with its index entries put in and taken out one by
 // one. They need a store that is laid out, and no more.
+use areas::area;
+use areas::search;
 use laid::catalog;
 use laid::entry;
 use laid::layout;
@@ -10,9 +12,7 @@ use laid::layout::ROWS_COUNT;
 use laid::row;
 use laid::row::Row;
 use rules::profile::Profile;
-use values::area;
 use values::cell;
-use values::search;
 use values::value;
 use values::value::Cell;
 use values::value::Order;

@@ -13,11 +13,11 @@ use borrow.Author.Tests.{eq-eqb, ne-eqb, not-true, not-false}
 use Rattle.values.specs.Basic.{isLt, find, nth, isSome, onlyIf, maybe, _orElse_}
 use Rattle.values.specs.Value.{Value, kindOf, isNull, isUndefined, same}
 use Rattle.values.specs.Cell.{nameWidth, readValue}
-use Rattle.values.specs.Search.{cmpNamed}
-use Rattle.values.specs.Sorted.{In}
-use Rattle.values.specs.Counted.{countAt}
-use Rattle.values.proofs.Halving.{count-le}
-use Rattle.values.proofs.Placing.{find-nothing}
+use Rattle.areas.specs.Search.{cmpNamed}
+use Rattle.areas.specs.Sorted.{In}
+use Rattle.areas.specs.Counted.{countAt}
+use Rattle.areas.proofs.Halving.{count-le}
+use Rattle.areas.proofs.Placing.{find-nothing}
 use Rattle.rules.specs.declared.profile.Profile.{Profile}
 use Rattle.rules.specs.declared.answer.Refusal.{Refusal}
 use Rattle.rules.specs.declared.answer.Refusal.the-variants.{Accepted, WrongKind, NullNotAllowed, TargetMissing, ValueExists}

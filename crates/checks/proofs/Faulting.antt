@@ -8,7 +8,7 @@ use lib.Dec.{eqb}
 use borrow.Author.Tests.{eq-eqb, ne-eqb, not-true, not-false}
 use Rattle.values.specs.Basic.{isNil, isNone, isSome, onlyIf, _orElse_}
 use Rattle.values.specs.Value.{Value, kindOf, isNull}
-use Rattle.values.specs.Sorted.{All}
+use Rattle.areas.specs.Sorted.{All}
 use Rattle.rules.specs.declared.answer.Refusal.{Refusal}
 use Rattle.rules.specs.declared.answer.Refusal.the-variants.{Accepted, EmptyColumnName, KeyNullable, KeyNotUnique, KeyIndexed, NullableWithoutDefault, NullDefault, DefaultKind, UniqueNotIndexed, ReferenceNotIndexed, UnknownTarget, TargetKind}
 use Rattle.rules.specs.Refusal.{numberOf}

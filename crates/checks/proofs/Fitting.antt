@@ -16,10 +16,10 @@ use Rattle.values.specs.Basic.{keep, nth, orDefault, maybe, _orElse_}
 use Rattle.values.specs.Value.{Value, null, isUndefined}
 use Rattle.values.specs.Cell.{nameWidth, readName}
 use Rattle.values.specs.Meaning.{held, Proper, ProperCell}
-use Rattle.values.specs.Sorted.{In}
-use Rattle.values.specs.Counted.{countAt}
+use Rattle.areas.specs.Sorted.{In}
+use Rattle.areas.specs.Counted.{countAt}
 use Rattle.values.specs.declared.value.Cell.{Cell}
-use Rattle.values.proofs.Sorting.{keep-length}
+use Rattle.areas.proofs.Sorting.{keep-length}
 use Rattle.rules.specs.declared.profile.Profile.{Profile}
 use Rattle.rules.specs.declared.answer.Refusal.{Refusal}
 use Rattle.rules.specs.declared.answer.Refusal.the-variants.{Accepted, KeyUndefined, KeyExists, RowsFull, RowAbsent, IndexFull}

@@ -12,10 +12,10 @@ use Rattle.values.specs.Basic.{andThen, isLt, any, maybe, cmpBytes}
 use Rattle.values.specs.Value.{Value, null, boolean, integer, float, text, same, cmpValue}
 use Rattle.values.specs.Meaning.{meaning, Proper}
 use Rattle.values.specs.declared.value.Value.the-variants.{Null}
-use Rattle.values.specs.Sorted.{Sorted, countOf}
+use Rattle.areas.specs.Sorted.{Sorted, countOf}
 use Rattle.values.proofs.Orders.{Ord, pull, lex, ordBytes, ordℕ, ordValue, self, congʳ, exactℕ, of-eq, eq≢lt, gt≢lt, opp}
-use Rattle.values.proofs.Runs.{key-leads, none-before}
-use Rattle.values.proofs.Sorting.{all-below}
+use Rattle.areas.proofs.Runs.{key-leads, none-before}
+use Rattle.areas.proofs.Sorting.{all-below}
 use Rattle.rules.specs.State.{Name, Table, Row, cmpRow}
 use Rattle.rules.specs.Index.{Entry, cmpEntry, indexOf}
 use Rattle.rules.specs.Rows.{taken}

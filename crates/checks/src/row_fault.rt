@@ -1,4 +1,5 @@
 // What is wrong with a row against the store, part by part (schema.rs: `validate_row`): 28 to 31, 34, 33, 36.
+use areas::search;
 use laid::catalog;
 use laid::catalog::Column;
 use laid::catalog::Found;
@@ -10,7 +11,6 @@ use rules::answer;
 use rules::answer::Refusal;
 use rules::profile::Profile;
 use values::cell;
-use values::search;
 use values::value;
 use values::value::Order;
 use values::value::Text;

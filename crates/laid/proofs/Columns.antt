@@ -11,8 +11,8 @@ use lib.Seq.{take-all, take-take, getD-take, getD-drop, drop-drop, take-nil}
 use Rattle.values.specs.Basic.{nth, onlyIf, orDefault}
 use Rattle.values.specs.Value.{Value, textMost}
 use Rattle.values.specs.Cell.{nameWidth, cellWidth, readName, byKind, readValue}
-use Rattle.values.specs.Records.{records}
-use Rattle.values.proofs.Records.{length-records}
+use Rattle.areas.specs.Records.{records}
+use Rattle.areas.proofs.Records.{length-records}
 use Rattle.rules.specs.declared.profile.Profile.{Profile}
 use Rattle.rules.specs.Profile.{columnWidth, schemaWidth}
 use Rattle.rules.specs.State as S

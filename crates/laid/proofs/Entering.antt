@@ -11,14 +11,14 @@ use borrow.Rule.Slice.PartMut.{putMid}
 use Rattle.values.specs.Basic.{isLt}
 use Rattle.values.specs.Area.{withPart}
 use Rattle.values.specs.Cell.{cellWidth}
-use Rattle.values.specs.Counted.{countAt, Grows, Shrinks, grown, shrunk}
-use Rattle.values.specs.Records.{records}
-use Rattle.values.specs.Search.{cmpNamed, cmpContent, cmpEntered, SearchIn}
-use Rattle.values.specs.Sorted.{Sorted, countOf, Falls, insertAt, removeRun, replaceAt}
-use Rattle.values.proofs.Changes.{replace-insert, length-insert-at, length-remove-run, map-remove-run, remove-one}
-use Rattle.values.proofs.Halving.{count-le, count-same, falls-same, count-map}
-use Rattle.values.proofs.Nest.{mid-back}
-use Rattle.values.proofs.Placing.{falls-sorted, found-at, sorted-remove-at}
+use Rattle.areas.specs.Counted.{countAt, Grows, Shrinks, grown, shrunk}
+use Rattle.areas.specs.Records.{records}
+use Rattle.areas.specs.Search.{cmpNamed, cmpContent, cmpEntered, SearchIn}
+use Rattle.areas.specs.Sorted.{Sorted, countOf, Falls, insertAt, removeRun, replaceAt}
+use Rattle.areas.proofs.Changes.{replace-insert, length-insert-at, length-remove-run, map-remove-run, remove-one}
+use Rattle.areas.proofs.Halving.{count-le, count-same, falls-same, count-map}
+use Rattle.areas.proofs.Nest.{mid-back}
+use Rattle.areas.proofs.Placing.{falls-sorted, found-at, sorted-remove-at}
 use Rattle.rules.specs.declared.profile.Profile.{Profile}
 use Rattle.rules.specs.Profile.{entryWidth, entriesAt}
 use Rattle.rules.specs.Index.{Entry, cmpEntry}

@@ -10,12 +10,12 @@ use mathlib.Core.List.{List, [], _∷_, _++_, map}
 use lib.Dec.{isEq}
 use lib.ListN.{length, take, drop, getD}
 use Rattle.values.specs.Basic.{isLt, isNil, nth, any, find}
-use Rattle.values.specs.Sorted.{All, Sorted, countOf, Falls}
+use Rattle.areas.specs.Sorted.{All, Sorted, countOf, Falls}
 use Rattle.values.proofs.Orders.{Ord, congʳ, gt≢lt}
-use Rattle.values.proofs.Halving.{count-map}
-use Rattle.values.proofs.Placing.{rank, holds}
-use Rattle.values.proofs.Runs.{none-before}
-use Rattle.values.proofs.Sorting.{all-below}
+use Rattle.areas.proofs.Halving.{count-map}
+use Rattle.areas.proofs.Placing.{rank, holds}
+use Rattle.areas.proofs.Runs.{none-before}
+use Rattle.areas.proofs.Sorting.{all-below}
 use Rattle.rules.proofs.Lists.{any-is}
 use Rattle.rules.proofs.Tests.{is-eq}
 use Rattle.laid.specs.Catalog.{placeOf}

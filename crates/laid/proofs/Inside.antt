@@ -8,9 +8,9 @@ use lib.ListN.{length, take, drop, getD, length-drop}
 use lib.Seq.{drop-drop}
 use Rattle.values.specs.Area.{recordAt}
 use Rattle.values.specs.Cell.{nameWidth}
-use Rattle.values.specs.Records.{Wide, records}
-use Rattle.values.specs.Counted.{countAt}
-use Rattle.values.proofs.Records.{length-records, getD-records, wide-records, wide-at}
+use Rattle.areas.specs.Records.{Wide, records}
+use Rattle.areas.specs.Counted.{countAt}
+use Rattle.areas.proofs.Records.{length-records, getD-records, wide-records, wide-at}
 use Rattle.rules.specs.declared.profile.Profile.{Profile}
 use Rattle.rules.specs.Profile.{headerWidth, schemaWidth, rowWidth, entryWidth, storeLength}
 use Rattle.rules.specs.Layout.{lists, Area, Schemas, Rows, Entries, countPlace, countWidth, areaAt, recordWidth, areaPlaces, inArea}

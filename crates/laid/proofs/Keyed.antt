@@ -10,12 +10,12 @@ use lib.ListN.{length, take, drop, getD, length-map}
 use Rattle.values.specs.Basic.{andThen, isLt, cmpBytes, nth, orDefault}
 use Rattle.values.specs.Value.{Value, null, normalised, cmpValue}
 use Rattle.values.specs.Cell.{nameWidth, cellWidth, readValue}
-use Rattle.values.specs.Counted.{countAt}
-use Rattle.values.specs.Records.{records}
-use Rattle.values.specs.Search.{cmpNamed, cmpKeyed, SearchIn}
-use Rattle.values.specs.Sorted.{In, Sorted, countOf}
+use Rattle.areas.specs.Counted.{countAt}
+use Rattle.areas.specs.Records.{records}
+use Rattle.areas.specs.Search.{cmpNamed, cmpKeyed, SearchIn}
+use Rattle.areas.specs.Sorted.{In, Sorted, countOf}
 use Rattle.values.proofs.Orders.{exactBytes}
-use Rattle.values.proofs.Placing.{rank, holds, holds-at, holds-past}
+use Rattle.areas.proofs.Placing.{rank, holds, holds-at, holds-past}
 use Rattle.rules.specs.declared.profile.Profile.{Profile}
 use Rattle.rules.specs.Profile.{rowWidth, rowsAt}
 use Rattle.rules.specs.State.{Row, cmpRow, tableNamed, isRow, cellAt}

@@ -11,10 +11,10 @@ use lib.Dec.{isEq}
 use lib.ListN.{length, drop, getD, length-map}
 use Rattle.values.specs.Basic.{insertBy, nth}
 use Rattle.values.specs.Cell.{nameWidth, readName, readValue}
-use Rattle.values.specs.Sorted.{In, Sorted, insertAt, removeRun}
-use Rattle.values.proofs.Changes.{remove-one}
-use Rattle.values.proofs.Placing.{holds, insert-new, keep-others}
-use Rattle.values.proofs.Sorting.{insert-sorted, keep-sorted, in-keep}
+use Rattle.areas.specs.Sorted.{In, Sorted, insertAt, removeRun}
+use Rattle.areas.proofs.Changes.{remove-one}
+use Rattle.areas.proofs.Placing.{holds, insert-new, keep-others}
+use Rattle.areas.proofs.Sorting.{insert-sorted, keep-sorted, in-keep}
 use Rattle.rules.specs.declared.profile.Profile.{Profile}
 use Rattle.rules.specs.Profile.{placesMost, rowWidth}
 use Rattle.rules.specs.State as S

@@ -5,13 +5,13 @@ use mathlib.Core.Logic.{inl, inr}
 use mathlib.Core.List.{List, [], _∷_, map}
 use lib.ListN.{length, take, drop}
 use Rattle.values.specs.Basic.{isLt}
-use Rattle.values.specs.Counted.{countAt}
-use Rattle.values.specs.Records.{records}
-use Rattle.values.specs.Search.{SearchIn}
-use Rattle.values.specs.Sorted.{In, All, Sorted, countOf, Falls}
+use Rattle.areas.specs.Counted.{countAt}
+use Rattle.areas.specs.Records.{records}
+use Rattle.areas.specs.Search.{SearchIn}
+use Rattle.areas.specs.Sorted.{In, All, Sorted, countOf, Falls}
 use Rattle.values.proofs.Orders.{Ord}
-use Rattle.values.proofs.Halving.{count-same, falls-same, count-map, falls-map}
-use Rattle.values.proofs.Placing.{rank, falls-sorted}
+use Rattle.areas.proofs.Halving.{count-same, falls-same, count-map, falls-map}
+use Rattle.areas.proofs.Placing.{rank, falls-sorted}
 use Rattle.rules.specs.declared.profile.Profile.{Profile}
 use Rattle.rules.specs.Layout.{lists, Area, countPlace, countWidth, areaAt, recordWidth, inArea}
 use Rattle.laid.specs.Store.{Inside}

@@ -9,12 +9,12 @@ use lib.ListN.{length, getD}
 use Rattle.values.specs.Basic.{cmpBytes, nth, orDefault}
 use Rattle.values.specs.Value.{Value, normalised}
 use Rattle.values.specs.Cell.{readName}
-use Rattle.values.specs.Sorted.{In}
+use Rattle.areas.specs.Sorted.{In}
 use Rattle.values.specs.declared.value.Text.{Text}
 use Rattle.values.specs.declared.value.Value as D
 use Rattle.values.specs.Meaning.{textBytes, Packed, meaning, Proper}
 use Rattle.values.proofs.Orders.{self, ordBytes}
-use Rattle.values.proofs.Sorting.{one-place}
+use Rattle.areas.proofs.Sorting.{one-place}
 use Rattle.rules.specs.declared.profile.Profile.{Profile}
 use Rattle.rules.specs.Profile.{placesMost, Known}
 use Rattle.rules.specs.State as S

@@ -12,16 +12,16 @@ use lib.ListN.{length, take, drop, getD, length-drop, drop-of-length-le}
 use lib.Seq.{drop-cons}
 use Rattle.values.specs.Basic.{isLt, cmpBytes, keep}
 use Rattle.values.specs.Cell.{readName}
-use Rattle.values.specs.Records.{records}
-use Rattle.values.specs.Search.{cmpNamed, SearchIn}
-use Rattle.values.specs.Counted.{countAt, Shrinks, shrunk}
-use Rattle.values.specs.Sorted.{All, Sorted, countOf, Falls}
+use Rattle.areas.specs.Records.{records}
+use Rattle.areas.specs.Search.{cmpNamed, SearchIn}
+use Rattle.areas.specs.Counted.{countAt, Shrinks, shrunk}
+use Rattle.areas.specs.Sorted.{All, Sorted, countOf, Falls}
 use Rattle.values.proofs.Orders.{ordBytes}
-use Rattle.values.proofs.Records.{length-records, part-record}
-use Rattle.values.proofs.Halving.{count-le, count-same, falls-same, count-map, falls-map}
-use Rattle.values.proofs.Changes.{map-remove-run}
-use Rattle.values.proofs.Runs.{runAt, runLength, none-before, falls-keyed, keep-outside, keep-run}
-use Rattle.values.proofs.Sorting.{in-keep}
+use Rattle.areas.proofs.Records.{length-records, part-record}
+use Rattle.areas.proofs.Halving.{count-le, count-same, falls-same, count-map, falls-map}
+use Rattle.areas.proofs.Changes.{map-remove-run}
+use Rattle.areas.proofs.Runs.{runAt, runLength, none-before, falls-keyed, keep-outside, keep-run}
+use Rattle.areas.proofs.Sorting.{in-keep}
 use Rattle.rules.specs.declared.profile.Profile.{Profile}
 use Rattle.rules.specs.Layout.{lists, Area, countPlace, countWidth, areaAt, recordWidth, areaPlaces, inArea}
 use Rattle.rules.proofs.Widths.{area-within}

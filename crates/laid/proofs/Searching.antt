@@ -16,13 +16,13 @@ use Rattle.values.specs.declared.value.Order.{Order}
 use Rattle.values.specs.declared.value.Order.the-variants.{Less, Same, More}
 use Rattle.values.specs.Basic.{isLt, cmpBytes, nth}
 use Rattle.values.specs.Meaning.{ordering}
-use Rattle.values.specs.Records.{records}
-use Rattle.values.specs.Search.{cmpNamed, SearchIn}
-use Rattle.values.specs.Sorted.{countOf, Falls}
-use Rattle.values.specs.Counted.{countAt}
+use Rattle.areas.specs.Records.{records}
+use Rattle.areas.specs.Search.{cmpNamed, SearchIn}
+use Rattle.areas.specs.Sorted.{countOf, Falls}
+use Rattle.areas.specs.Counted.{countAt}
 use Rattle.values.proofs.Orders.{Ord, pull, ordBytes}
-use Rattle.values.proofs.Halving.{count-map}
-use Rattle.values.proofs.Placing.{rank, holds, falls-sorted, holds-at, holds-past}
+use Rattle.areas.proofs.Halving.{count-map}
+use Rattle.areas.proofs.Placing.{rank, holds, falls-sorted, holds-at, holds-past}
 use Rattle.rules.specs.declared.profile.Profile.{Profile}
 use Rattle.rules.specs.Profile.{headerWidth, schemaWidth}
 use Rattle.rules.specs.State.{Table, cmpTable, isNamed, tableNamed}

@@ -6,8 +6,8 @@ use mathlib.Core.Bool.{true}
 use mathlib.Core.List.{List, [], _∷_, map}
 use mathlib.Core.Logic.{inl, inr}
 use lib.ListN.{length}
-use Rattle.values.specs.Counted.{countAt}
-use Rattle.values.specs.Sorted.{In, All}
+use Rattle.areas.specs.Counted.{countAt}
+use Rattle.areas.specs.Sorted.{In, All}
 use Rattle.rules.specs.declared.profile.Profile.{Profile}
 use Rattle.rules.specs.Profile.{placesMost}
 use Rattle.rules.specs.State.{Table, State}

@@ -7,8 +7,8 @@ use mathlib.Core.Option.{Option, none, some, Option·map}
 use lib.Dec.{isEq}
 use lib.ListN.{length, drop}
 use Rattle.values.specs.Basic.{isLt, nth}
-use Rattle.values.specs.Sorted.{All, Sorted, countOf, Falls, removeRun}
-use Rattle.values.specs.Search.{cmpNamed}
+use Rattle.areas.specs.Sorted.{All, Sorted, countOf, Falls, removeRun}
+use Rattle.areas.specs.Search.{cmpNamed}
 use Rattle.values.specs.declared.value.Text.{Text}
 use Rattle.values.specs.Meaning.{textBytes, Packed}
 use Rattle.rules.specs.declared.profile.Profile.{Profile}

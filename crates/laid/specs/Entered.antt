@@ -7,11 +7,11 @@ use lib.Dec.{isEq}
 use Rattle.values.specs.Basic.{isLt, any}
 use Rattle.values.specs.Value.{Value}
 use Rattle.values.specs.Cell.{cellWidth, nameCell, valueCell}
-use Rattle.values.specs.Records.{joined}
+use Rattle.areas.specs.Records.{joined}
 use Rattle.values.specs.declared.value.Text.{Text}
 use Rattle.values.specs.declared.value.Value as D
 use Rattle.values.specs.Meaning.{textBytes, meaning, Packed, Proper}
-use Rattle.values.specs.Sorted.{Sorted, countOf, insertAt, removeRun}
+use Rattle.areas.specs.Sorted.{Sorted, countOf, insertAt, removeRun}
 use Rattle.rules.specs.declared.profile.Profile.{Profile}
 use Rattle.rules.specs.Profile.{placesMost}
 use Rattle.rules.specs.Index.{Entry, cmpEntry}

@@ -10,7 +10,7 @@ use Rattle.values.specs.Value.{Value, null, same, normalised}
 use Rattle.values.specs.Cell.{nameWidth}
 use Rattle.values.specs.declared.value.Cell.{Cell}
 use Rattle.values.specs.Meaning.{held, ProperCell}
-use Rattle.values.specs.Sorted.{All}
+use Rattle.areas.specs.Sorted.{All}
 use Rattle.rules.specs.declared.profile.Profile.{Profile}
 use Rattle.rules.specs.State as S
 use Rattle.rules.specs.State.{Table, tableNamed, hasRow, keyOf, rowOf}

@@ -5,7 +5,7 @@ use Prim.Native.Nat.{ℕ, _*_, _≤_}
 use mathlib.Core.List.{List}
 use lib.ListN.{length}
 use Rattle.values.specs.Cell.{cellWidth}
-use Rattle.values.specs.Counted.{countAt}
+use Rattle.areas.specs.Counted.{countAt}
 use Rattle.rules.specs.declared.profile.Profile.{Profile}
 use Rattle.rules.specs.declared.answer.Answer.{Answer}
 use Rattle.rules.specs.Profile.{placesMost, storeLength, Known}

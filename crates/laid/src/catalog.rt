@@ -1,8 +1,8 @@
 // Stored schemas: a table record's columns, and the place of a table (local.rs: `get_table`).
 use super::layout;
+use areas::search;
 use rules::profile::Profile;
 use values::cell;
-use values::search;
 use values::value::Cell;
 use values::value::Order;
 use values::value::Text;

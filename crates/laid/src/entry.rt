@@ -1,7 +1,7 @@
 // Index entries by place.
 use super::layout;
+use areas::search;
 use rules::profile::Profile;
-use values::search;
 use values::value::Text;
 use values::value::Value;
 ghost use mathlib.Core.Path.{_≡_};

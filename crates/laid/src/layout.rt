@@ -1,13 +1,13 @@
 // Where things stand in a store: widths and offsets of a profile, the header's counts, records by place.
+use areas::area;
+use areas::search;
 use rules::profile::Profile;
-use values::area;
 use values::cell;
-use values::search;
 ghost use mathlib.Core.Path.{_≡_};
 ghost use mathlib.Core.List.{[]};
 ghost use Prim.Native.Nat.{_≤_, _<_};
 ghost use lib.ListN.{length, getD};
-ghost use Rattle.values.specs.Counted.{countAt};
+ghost use Rattle.areas.specs.Counted.{countAt};
 ghost use Rattle.rules.specs.Profile.{headerWidth, columnWidth, schemaWidth, rowWidth, entryWidth, rowsAt, entriesAt, placeWidth, storeLength, placesMost, Known};
 ghost use Rattle.rules.specs.Layout.{tablesCount, rowsCount, entriesCount, lists};
 ghost use Rattle.laid.specs.Store.{Inside};

@@ -1,9 +1,9 @@
 // Rows by place: a row in flight, a row's cells in the store, the place of a key.
 use super::catalog::Found;
 use super::layout;
+use areas::search;
 use rules::profile::Profile;
 use values::cell;
-use values::search;
 use values::value::Cell;
 use values::value::Order;
 use values::value::Text;
@@ -15,7 +15,7 @@ ghost use Rattle.values.specs.Cell.{nameWidth, readValue};
 ghost use Rattle.rules.specs.Profile.{rowWidth};
 ghost use Rattle.values.specs.Basic.{isLt};
 ghost use Rattle.values.specs.Meaning.{textBytes, Packed, meaning, Proper, held, ProperCell};
-ghost use Rattle.values.specs.Sorted.{countOf};
+ghost use Rattle.areas.specs.Sorted.{countOf};
 ghost use Rattle.rules.specs.State.{cmpRow, isRow, cellAt};
 ghost use Rattle.rules.specs.Layout.{parse};
 ghost use Rattle.laid.specs.Store.{Coded, LaidStore};

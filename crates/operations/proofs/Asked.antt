@@ -10,7 +10,7 @@ use lib.ListN.{length, getD, length-map, length-take, length-drop}
 use Rattle.values.specs.Basic.{isSome, maybe}
 use Rattle.values.specs.Value.{Value, text}
 use Rattle.values.specs.Meaning.{textBytes, held}
-use Rattle.values.specs.Counted.{countAt}
+use Rattle.areas.specs.Counted.{countAt}
 use Rattle.values.specs.Read.{Read, got, NameRead, CellRead}
 use Rattle.values.specs.declared.value.Cell.{Cell}
 use Rattle.values.specs.declared.value.Text.{Text}
@@ -30,7 +30,7 @@ use Rattle.walks.specs.Spans.{Spans}
 use Rattle.walks.specs.declared.walk.Span.{Span}
 use Rattle.checks.proofs.Checking.{place-some, place-none}
 use Rattle.laid.proofs.Inside.{area-count}
-use Rattle.operations.specs.Got.{isGot, gotOr}
+use Rattle.mapping.specs.Got.{isGot, gotOr}
 use Rattle.records.specs.Reading.{andThen, byteAt}
 use Rattle.records.specs.Record.{valuesAt, createAt, dropAt, insertAt, updateAt, keysAt, lookupAt, scanAt, operandsAt}
 use Rattle.operations.specs.Told.{Acted, Replied}
@@ -38,7 +38,7 @@ use Rattle.records.specs.Walked.{walkedAs}
 use Rattle.records.proofs.Walking.{unknown}
 use Rattle.checks.proofs.KeysRead.{values-end, values-got, values-broken}
 use Rattle.operations.proofs.Operands.{named-then, unnamed, keys-read}
-use Rattle.operations.proofs.ValuesFrom.{was-got, got-gives, parted, byte-there, values-there, values-inside}
+use Rattle.mapping.proofs.ValuesFrom.{was-got, got-gives, parted, byte-there, values-there, values-inside}
 
 -- ---- keys found, one by one
 

@@ -22,15 +22,15 @@ use Rattle.rules.specs.Request.{Request, Delete, Get, Lookup, Scan, Names, ente
 use Rattle.rules.specs.Step.{Change, Outcome, applyAll, lookup, act, step}
 use Rattle.laid.specs.Store.{Store, Stored}
 use Rattle.store.proofs.Outcomes.{unchanged}
-use Rattle.operations.specs.Got.{isGot, gotOr}
+use Rattle.mapping.specs.Got.{isGot, gotOr}
 use Rattle.records.specs.Reading.{andThen, times, flagged, byteAt, byteFrom}
 use Rattle.records.specs.Record.{valuesAt, columnAt, createAt, dropAt, mapAt, insertAt, pairAt, updateAt, keysAt, lookupAt, scanAt, operandsAt, requestOf}
 use Rattle.operations.specs.Told.{Acted, Replied, outcomeOf}
 use Rattle.records.specs.Walked.{walkedAs}
 use Rattle.records.specs.declared.record.Walked.{Walked}
 use Rattle.records.specs.declared.record.Walked.the-variants.{Ends, Breaks}
-use Rattle.operations.proofs.ValuesFrom.{was-got, got-is, got-gives, unbroken, parted, then-is, then-first, then-next, byte-got, from-got}
-use Rattle.operations.proofs.Read.{Gives, gives, given, gives-either, gives-got, gives-broken, gives-then, gives-flagged, Any, any}
+use Rattle.mapping.proofs.ValuesFrom.{was-got, got-is, got-gives, unbroken, parted, then-is, then-first, then-next, byte-got, from-got}
+use Rattle.mapping.proofs.Read.{Gives, gives, given, gives-either, gives-got, gives-broken, gives-then, gives-flagged, Any, any}
 
 -- f leaves it as it is
 abbrev pub Same : {A : Type 0} → (A → A) → A → Type 0

@@ -12,7 +12,7 @@ use borrow.Author.Tests.{eqb-true}
 use Rattle.values.specs.Basic.{isNone, orDefault, _orElse_}
 use Rattle.values.specs.Meaning.{held}
 use Rattle.values.specs.Read.{got, valueAt}
-use Rattle.values.specs.Sorted.{In, All}
+use Rattle.areas.specs.Sorted.{In, All}
 use Rattle.values.specs.Value.{Value, normalised}
 use Rattle.values.specs.declared.value.Cell.{Cell}
 use Rattle.values.proofs.Reading.{value-read}
@@ -25,10 +25,10 @@ use Rattle.rules.proofs.Tests.{all-head, all-tail, every-at, first-none}
 use Rattle.rules.proofs.Trip.{canonical-normal}
 use Rattle.laid.specs.Row.{cellsOf, NormalCell}
 use Rattle.laid.specs.declared.row.Row.{Row}
-use Rattle.operations.specs.Mapped.{filledOf}
+use Rattle.mapping.specs.Mapped.{filledOf}
 use Rattle.records.specs.Reading.{times, byteAt}
 use Rattle.records.specs.Record.{valuesAt}
-use Rattle.operations.proofs.ValuesFrom.{headed, parted}
+use Rattle.mapping.proofs.ValuesFrom.{headed, parted}
 
 -- ---- what is true of the given values and of the defaults is true of the row's
 

@@ -28,8 +28,8 @@ use Rattle.laid.specs.Row.{tableIn}
 use Rattle.laid.specs.Store.{Store, Stored}
 use Rattle.laid.proofs.Finding.{place-missing}
 use Rattle.store.proofs.Outcomes.{unchanged}
-use Rattle.operations.specs.Got.{isGot, gotOr}
-use Rattle.operations.specs.Mapped.{rowsAt}
+use Rattle.mapping.specs.Got.{isGot, gotOr}
+use Rattle.mapping.specs.Mapped.{rowsAt}
 use Rattle.records.specs.Reading.{times, byteAt}
 use Rattle.records.specs.Record.{valuesAt, mapAt, insertAt}
 use Rattle.operations.specs.Told.{Acted}
@@ -38,7 +38,7 @@ use Rattle.records.specs.declared.record.Walked.the-variants.{Ends, Breaks}
 use Rattle.records.specs.declared.record.Walked.{Walked}
 use Rattle.operations.proofs.Naming.{named-its}
 use Rattle.operations.proofs.Operands.{unnamed}
-use Rattle.operations.proofs.ValuesFrom.{was-got, got-is, got-gives, parted, byte-there}
+use Rattle.mapping.proofs.ValuesFrom.{was-got, got-is, got-gives, parted, byte-there}
 use Rattle.records.proofs.Walking.{ends}
 
 -- ---- the operands

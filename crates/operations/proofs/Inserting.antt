@@ -34,18 +34,18 @@ use Rattle.checks.proofs.Fitting.{rec-bytes, table-is}
 use Rattle.laid.proofs.RowFacts.{table-held}
 use Rattle.laid.proofs.Stores.{store-valid, store-inside, laid-store}
 use Rattle.store.proofs.Written.{reads-back, store-again, row-ready, own-named}
-use Rattle.operations.specs.Got.{isGot}
-use Rattle.operations.specs.Mapped.{mapOf, filledOf, rowsAt}
+use Rattle.mapping.specs.Got.{isGot}
+use Rattle.mapping.specs.Mapped.{mapOf, filledOf, rowsAt}
 use Rattle.records.specs.Reading.{times}
 use Rattle.records.specs.Record.{valuesAt}
 use Rattle.records.specs.Walked.{walkedAs}
-use Rattle.operations.specs.declared.executor.Map.{Map}
+use Rattle.mapping.specs.declared.executor.Map.{Map}
 use Rattle.records.specs.declared.record.Walked.the-variants.{Ends}
 use Rattle.records.specs.declared.record.Walked.{Walked}
 use Rattle.operations.proofs.FullRows.{values-normal, full-count, full-cells, full-normal}
 use Rattle.operations.proofs.InTurn.{Remains, remains-start, stored-end, stored-stops, stored-next}
-use Rattle.operations.proofs.Mapping.{RowFirst, row-first, rows-none}
-use Rattle.operations.proofs.ValuesFrom.{values-there}
+use Rattle.mapping.proofs.Mapping.{RowFirst, row-first, rows-none}
+use Rattle.mapping.proofs.ValuesFrom.{values-there}
 use Rattle.records.proofs.Walking.{ends}
 
 -- ---- a store after a row's turn

@@ -1,7 +1,3 @@
-pub mod Read
-pub mod ValuesFrom
-pub mod Mapping
-pub mod Pairs
 pub mod InTurn
 pub mod FullRows
 pub mod Naming

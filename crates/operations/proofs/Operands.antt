@@ -32,13 +32,13 @@ use Rattle.laid.specs.Store.{Store, Stored}
 use Rattle.checks.specs.declared.schema_fault.Fault.{Fault}
 use Rattle.laid.proofs.Finding.{place-missing}
 use Rattle.store.proofs.Outcomes.{unchanged}
-use Rattle.operations.specs.Got.{isGot, gotOr}
-use Rattle.operations.specs.Mapped.{pairsAt}
+use Rattle.mapping.specs.Got.{isGot, gotOr}
+use Rattle.mapping.specs.Mapped.{pairsAt}
 use Rattle.records.specs.Reading.{andThen, times, byteAt, byteFrom}
 use Rattle.records.specs.Record.{valuesAt, dropAt, pairAt, updateAt, keysAt}
 use Rattle.operations.specs.Told.{Acted}
 use Rattle.operations.proofs.Naming.{named-its}
-use Rattle.operations.proofs.ValuesFrom.{was-got, got-gives, never-broken, parted, then-is, then-first, then-next, from-there, byte-got, values-there, values-inside}
+use Rattle.mapping.proofs.ValuesFrom.{was-got, got-gives, never-broken, parted, then-is, then-first, then-next, from-there, byte-got, values-there, values-inside}
 
 -- ---- a name and then the rest: r is what was read of the name
 

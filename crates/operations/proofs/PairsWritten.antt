@@ -12,7 +12,7 @@ use borrow.Author.Tests.{eq-eqb, eqb-true}
 use Rattle.values.specs.Basic.{nth, orDefault}
 use Rattle.values.specs.Meaning.{held, Proper}
 use Rattle.values.specs.Read.{got, CellRead}
-use Rattle.values.specs.Sorted.{All}
+use Rattle.areas.specs.Sorted.{All}
 use Rattle.values.specs.Value.{Value, same}
 use Rattle.values.specs.declared.read.ReadCell.{ReadCell}
 use Rattle.values.specs.declared.read.ReadCell.the-variants.{Got, Broken}
@@ -41,8 +41,8 @@ use Rattle.laid.specs.declared.row.Row.{Row}
 use Rattle.laid.proofs.RowFacts.{table-held}
 use Rattle.laid.proofs.Stores.{store-valid, store-inside, laid-store}
 use Rattle.store.proofs.Written.{reads-back, store-again, row-ready, own-named}
-use Rattle.operations.specs.Got.{isGot}
-use Rattle.operations.specs.Mapped.{pairsAt}
+use Rattle.mapping.specs.Got.{isGot}
+use Rattle.mapping.specs.Mapped.{pairsAt}
 use Rattle.records.specs.Reading.{times}
 use Rattle.records.specs.Record.{valuesAt, pairAt}
 use Rattle.records.specs.Walked.{walkedAs}
@@ -50,9 +50,9 @@ use Rattle.records.specs.declared.record.Walked.the-variants.{Ends, Breaks}
 use Rattle.records.specs.declared.record.Walked.{Walked}
 use Rattle.operations.proofs.FullRows.{Normal, values-normal, cells-normal}
 use Rattle.operations.proofs.InTurn.{Remains, remains-start, stored-end, stored-stops, stored-next}
-use Rattle.operations.proofs.Pairs.{PairThere, pair-there, pairs-none, row-end, row-never, size-over, size-again, others-left, old-never, old-is, old-end}
+use Rattle.mapping.proofs.Pairs.{PairThere, pair-there, pairs-none, row-end, row-never, size-over, size-again, others-left, old-never, old-is, old-end}
 use Rattle.checks.proofs.KeysRead.{values-end, values-got}
-use Rattle.operations.proofs.ValuesFrom.{cell-proper, values-there, values-inside}
+use Rattle.mapping.proofs.ValuesFrom.{cell-proper, values-there, values-inside}
 
 -- ---- a store after a pair's turn
 

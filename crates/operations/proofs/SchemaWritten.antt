@@ -19,11 +19,11 @@ use Rattle.values.specs.Read.{Read, got, broken, nameAt, valueAt}
 use Rattle.values.specs.Meaning.{textBytes, Packed, held, ProperCell}
 use Rattle.values.specs.declared.value.Text.{Text}
 use Rattle.values.specs.declared.value.Cell.{Cell}
-use Rattle.values.specs.Records.{joined}
+use Rattle.areas.specs.Records.{joined}
 use Rattle.values.proofs.Packing.{zeros-are, replicate-zeros}
-use Rattle.values.proofs.Records.{joined-append}
+use Rattle.areas.proofs.Records.{joined-append}
 use Rattle.values.proofs.Cells.{null-zeros}
-use Rattle.values.proofs.Nest.{put-next, set-next}
+use Rattle.areas.proofs.Nest.{put-next, set-next}
 use Rattle.rules.specs.declared.profile.Profile.{Profile}
 use Rattle.rules.specs.Profile.{columnWidth, schemaWidth}
 use Rattle.rules.specs.Request.{Request, Create, Names, enteredColumn, enteredTable}
@@ -41,11 +41,11 @@ use Rattle.laid.proofs.Stores.{table-bytes}
 use Rattle.changes.proofs.Writing.{name-long, cell-wide}
 use Rattle.changes.proofs.RowAdded.{drop-zeros}
 use Rattle.records.specs.declared.record.Walked.the-variants.{Ends}
-use Rattle.operations.specs.Got.{isGot, gotOr}
+use Rattle.mapping.specs.Got.{isGot, gotOr}
 use Rattle.records.proofs.Walking.{offset}
-use Rattle.operations.proofs.ValuesFrom.{was-got, never-broken, then-is, then-first, then-next, flagged-is, flagged-none, flagged-first, none-left, next-first, next-rest, next-whole, byte-got, from-got}
+use Rattle.mapping.proofs.ValuesFrom.{was-got, never-broken, then-is, then-first, then-next, flagged-is, flagged-none, flagged-first, none-left, next-first, next-rest, next-whole, byte-got, from-got}
 use Rattle.operations.proofs.Entered.{Same, gives-same, same-column}
-use Rattle.operations.proofs.Read.{Gives, given, gives-then, gives-got, Any, any, gives-column, gives-create}
+use Rattle.mapping.proofs.Read.{Gives, given, gives-then, gives-got, Any, any, gives-column, gives-create}
 use Rattle.records.specs.Reading.{andThen, times, flagged, byteAt, byteFrom}
 use Rattle.records.specs.Record.{columnAt, createAt}
 use Rattle.records.specs.Walked.{walkedAs}

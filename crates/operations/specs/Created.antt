@@ -4,7 +4,7 @@ use Rattle.values.specs.Read.{Read}
 use Rattle.rules.specs.State.{Column, Table}
 use Rattle.rules.specs.Request.{Request, Create, Drop, Insert, Update, Delete, Get, Lookup, Scan, Names}
 use Rattle.laid.specs.Row.{noColumn}
-use Rattle.operations.specs.Got.{gotOr}
+use Rattle.mapping.specs.Got.{gotOr}
 
 abbrev pub noTable : Table
 noTable = record { name = []; key = 0; columns = [] }

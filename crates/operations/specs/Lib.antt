@@ -1,4 +1,2 @@
-pub mod Got
 pub mod Told
 pub mod Created
-pub mod Mapped

@@ -11,7 +11,7 @@ use Rattle.rules.specs.Layout.{parse}
 use Rattle.rules.specs.Request.{Request, Names, said, no}
 use Rattle.rules.specs.Step.{Outcome, refused, act, step}
 use Rattle.laid.specs.Store.{Stored}
-use Rattle.operations.specs.Got.{gotOr}
+use Rattle.mapping.specs.Got.{gotOr}
 
 unfoldable pub outcomeOf : Profile → ℕ → State → Read Request → Outcome
 outcomeOf p R s (got q n) = step p R s q

@@ -17,7 +17,7 @@ ghost use Rattle.rules.specs.Profile.{columnWidth, schemaWidth};
 ghost use Rattle.rules.specs.Layout.{columnRecord, tableRecord};
 ghost use Rattle.laid.specs.Store.{Coded, Store};
 ghost use Rattle.records.specs.declared.record.Walked.the-variants.{Ends};
-ghost use Rattle.operations.specs.Got.{isGot};
+ghost use Rattle.mapping.specs.Got.{isGot};
 ghost use Rattle.records.specs.Record.{columnAt, createAt};
 ghost use Rattle.records.specs.Walked.{walkedAs};
 ghost use Rattle.operations.specs.Told.{Acted};

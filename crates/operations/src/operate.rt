@@ -1,11 +1,11 @@
 // A request carried out: each operation reads its operands where they stand in the record, and calls the store.
 use super::create;
-use super::executor;
-use super::executor::Map;
-use super::update;
 use laid::catalog;
 use laid::catalog::Found;
 use laid::layout;
+use mapping::executor;
+use mapping::executor::Map;
+use mapping::update;
 use records::record;
 use records::record::Walked;
 use rules::answer;
@@ -35,9 +35,9 @@ ghost use Rattle.laid.specs.Store.{LaidStore, Store, Stored};
 ghost use Rattle.laid.specs.Row.{tableIn};
 ghost use Rattle.checks.specs.Keys.{valuesFrom};
 ghost use Rattle.records.specs.Reading.{times};
-ghost use Rattle.operations.specs.Got.{isGot};
+ghost use Rattle.mapping.specs.Got.{isGot};
 ghost use Rattle.records.specs.Record.{valuesAt, dropAt, insertAt, pairAt, updateAt, keysAt, lookupAt, scanAt, operandsAt, requestOf};
-ghost use Rattle.operations.specs.Mapped.{mapOf, MapIn, rowsAt, pairsAt};
+ghost use Rattle.mapping.specs.Mapped.{mapOf, MapIn, rowsAt, pairsAt};
 ghost use Rattle.operations.specs.Told.{Acted, Replied, outcomeOf};
 
 // 2: name, if-exists byte.

@@ -23,7 +23,7 @@ use Rattle.laid.specs.Store.{Store, Stored}
 use Rattle.requests.specs.declared.lines.Put.{Put}
 use Rattle.records.specs.declared.record.Walked.{Walked}
 use Rattle.records.specs.declared.record.Walked.the-variants.{Ends}
-use Rattle.operations.specs.Got.{isGot, gotOr}
+use Rattle.mapping.specs.Got.{isGot, gotOr}
 use Rattle.records.specs.Reading.{andThen, times, byteAt, byteFrom}
 use Rattle.records.specs.Record.{valuesAt, columnAt, createAt, dropAt, mapAt, insertAt, pairAt, updateAt, keysAt, operandsAt, requestOf}
 use Rattle.records.specs.Walked.{walkedAs}
@@ -33,7 +33,7 @@ use Rattle.requests.specs.Places.{textFrom, Wrote}
 use Rattle.requests.specs.Stream.{Answered}
 use Rattle.requests.proofs.Copied.{front-is}
 use Rattle.operations.proofs.Entered.{same-operands, Still, still-operands, operands-got, outcome-is}
-use Rattle.operations.proofs.Read.{Gives, gives, gives-then, gives-either, gives-got, gives-broken}
+use Rattle.mapping.proofs.Read.{Gives, gives, gives-then, gives-either, gives-got, gives-broken}
 
 pub broken-outcome : (p : Profile) (R : ℕ) (st : State) (x : ℕ) → outcomeOf p R st (broken x) ≡ refused (no RecordBroken 0)
 unfolding outcomeOf

@@ -10,7 +10,7 @@ use lib.ListN.{length, take, drop, length-append, length-drop, drop-of-length-le
 use lib.Seq.{getD-drop, take-append-le, drop-append-le, drop-drop}
 use borrow.Author.Tests.{ltb-false, leb-true, leb-false, le-ltb, ne-eqb}
 use Rattle.values.specs.Bytes.{Bytes}
-use Rattle.values.specs.Sorted.{All}
+use Rattle.areas.specs.Sorted.{All}
 use Rattle.values.specs.Read.{Read, got, broken}
 use Rattle.rules.specs.declared.profile.Profile.{Profile}
 use Rattle.rules.specs.declared.answer.Answer.{Answer}
@@ -33,7 +33,7 @@ use Rattle.records.specs.Record.{requestOf}
 use Rattle.records.specs.Frame.{framed, lengthOf, leastLength, mostLength, short}
 use Rattle.operations.specs.Told.{outcomeOf}
 use Rattle.requests.specs.Stream.{lentOutcome, lentAfter, Lent, inFrame, someRecords, recordsIn, inBytes, bytesOf, stateOf}
-use Rattle.operations.proofs.Read.{Gives, gives, gives-broken, read-readable}
+use Rattle.mapping.proofs.Read.{Gives, gives, gives-broken, read-readable}
 use Rattle.requests.proofs.Running.{Moves, moves, records-by}
 
 -- ---- parts of bytes are bytes

@@ -23,7 +23,7 @@ use Rattle.rules.proofs.Whole.{sound-is, image-parse}
 use Rattle.rules.proofs.Demand.{Demand3, demand-of}
 use Rattle.laid.specs.Store.{Store, Stored}
 use Rattle.requests.specs.declared.entry.Ran.{Ran}
-use Rattle.operations.specs.Got.{isGot}
+use Rattle.mapping.specs.Got.{isGot}
 use Rattle.requests.specs.Lines.{rowLines, answerLine, linesOf, stream}
 use Rattle.requests.specs.Places.{textFrom}
 use Rattle.operations.specs.Told.{outcomeOf}

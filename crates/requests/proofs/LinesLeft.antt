@@ -11,7 +11,7 @@ use Rattle.values.specs.Basic.{keep, keepIf, maybe}
 use Rattle.values.specs.Value.{Value, null, before, among}
 use Rattle.values.specs.Read.{Read, got, broken}
 use Rattle.values.specs.Print.{Front}
-use Rattle.values.proofs.Sorting.{keep-length}
+use Rattle.areas.proofs.Sorting.{keep-length}
 use Rattle.rules.specs.declared.profile.Profile.{Profile}
 use Rattle.rules.specs.declared.answer.Refusal.the-variants.{NotIndexed, UnknownTable}
 use Rattle.rules.specs.State.{Name, Row, State, tableNamed, ofTable, cellAt}
@@ -24,7 +24,7 @@ use Rattle.rules.proofs.Tests.{by-option}
 use Rattle.laid.specs.Store.{LaidStore}
 use Rattle.walks.specs.Looked.{keysWith}
 use Rattle.walks.proofs.KeysCounted.{leftBehind, all-left}
-use Rattle.operations.specs.Got.{isGot, gotOr}
+use Rattle.mapping.specs.Got.{isGot, gotOr}
 use Rattle.operations.specs.Told.{outcomeOf}
 use Rattle.requests.specs.Lines.{rowLine, rowLines, rowMost, answerLine}
 use Rattle.requests.proofs.Copied.{front-is, front-told, front-copied, front-back}

@@ -12,17 +12,17 @@ use lib.Seq.{drop-drop}
 use borrow.Author.Tests.{eqb-true, leb-true, leb-false}
 use Rattle.values.specs.Basic.{isLt, find, keepIf, keep, nth, maybe}
 use Rattle.values.specs.Cell.{nameWidth}
-use Rattle.values.specs.Counted.{countAt}
+use Rattle.areas.specs.Counted.{countAt}
 use Rattle.values.specs.Meaning.{textBytes, held, meaning, ProperCell}
 use Rattle.values.specs.Print.{Front}
 use Rattle.values.specs.Read.{Read, got, broken, nameAt}
-use Rattle.values.specs.Sorted.{In, Sorted}
+use Rattle.areas.specs.Sorted.{In, Sorted}
 use Rattle.values.specs.Value.{Value, null, text, before, among, cmpValue}
 use Rattle.values.specs.declared.value.Text.{Text}
 use Rattle.values.specs.declared.value.Value.the-variants.{Text as Words}
 use Rattle.values.proofs.Reading.{Told}
 use Rattle.values.proofs.Orders.{ordValue, self, opp, lt-at}
-use Rattle.values.proofs.Sorting.{all-below, find-in, find-none}
+use Rattle.areas.proofs.Sorting.{all-below, find-in, find-none}
 use Rattle.rules.specs.declared.profile.Profile.{Profile}
 use Rattle.rules.specs.Layout.{lists, tablesCount, parse}
 use Rattle.rules.specs.Request.{Request, Get, Lookup, Scan, Names, Reply}
@@ -44,12 +44,12 @@ use Rattle.laid.proofs.RowFacts.{table-there, start-count}
 use Rattle.laid.proofs.Searching.{tables-count}
 use Rattle.laid.proofs.Stores.{held-state}
 use Rattle.requests.specs.declared.lines.Step.{Step}
-use Rattle.operations.specs.Got.{isGot, gotOr}
+use Rattle.mapping.specs.Got.{isGot, gotOr}
 use Rattle.records.specs.Reading.{andThen, byteAt, byteFrom}
 use Rattle.records.specs.Record.{valuesAt, createAt, dropAt, insertAt, updateAt, keysAt, lookupAt, scanAt, operandsAt, requestOf}
 use Rattle.requests.specs.Lines.{rowLine, rowMost}
 use Rattle.requests.specs.Places.{cellsIn, nameLine, keyLine, linesFrom, ended, wrote, Lined}
-use Rattle.operations.proofs.ValuesFrom.{was-got, got-gives, unbroken, parted, byte-there, from-there, values-there, values-inside}
+use Rattle.mapping.proofs.ValuesFrom.{was-got, got-gives, unbroken, parted, byte-there, from-there, values-there, values-inside}
 
 -- ---- a line that is the first of those left, or none
 

@@ -29,7 +29,7 @@ ghost use Rattle.rules.specs.Request.{Get, Lookup, Scan, Names, said};
 ghost use Rattle.laid.specs.Store.{LaidStore, Store};
 ghost use Rattle.laid.specs.Row.{rowIn};
 ghost use Rattle.checks.specs.Keys.{valuesFrom};
-ghost use Rattle.operations.specs.Got.{isGot, gotOr};
+ghost use Rattle.mapping.specs.Got.{isGot, gotOr};
 ghost use Rattle.records.specs.Record.{requestOf};
 ghost use Rattle.requests.specs.Lines.{rowLine, rowMost};
 ghost use Rattle.requests.specs.Places.{Lined, Wrote};

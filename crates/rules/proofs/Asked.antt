@@ -9,8 +9,8 @@ use lib.ListN.{length}
 use borrow.Author.Tests.{eqb-true}
 use Rattle.values.specs.Basic.{isNone, orDefault, _orElse_}
 use Rattle.values.specs.Value.{Value, normalised}
-use Rattle.values.specs.Sorted.{In, All}
-use Rattle.values.proofs.Sorting.{find-in}
+use Rattle.areas.specs.Sorted.{In, All}
+use Rattle.areas.proofs.Sorting.{find-in}
 use Rattle.rules.specs.declared.profile.Profile.{Profile}
 use Rattle.rules.specs.declared.answer.Refusal.the-variants.{RowSize}
 use Rattle.rules.specs.State.{Column, Table, State, isNamed}

@@ -6,8 +6,8 @@ use mathlib.Core.List.{List, [], _∷_, map}
 use mathlib.Core.Option.{none, some}
 use Rattle.values.specs.Basic.{keep, insertBy}
 use Rattle.values.specs.Value.{Value, same}
-use Rattle.values.specs.Sorted.{All}
-use Rattle.values.proofs.Sorting.{find-in}
+use Rattle.areas.specs.Sorted.{All}
+use Rattle.areas.proofs.Sorting.{find-in}
 use Rattle.rules.specs.declared.profile.Profile.{Profile}
 use Rattle.rules.specs.State.{Name, Table, Row, State, cmpTable, isNamed, tableNamed, rowWith, keyOf, rowOf}
 use Rattle.rules.specs.Request.{Pair, Request, Create, Drop, Insert, Update, Delete, Get, Lookup, Scan, Names, entered}

@@ -11,10 +11,10 @@ use lib.ListN.{length}
 use borrow.Author.Tests.{not-true, not-false, leb-false}
 use Rattle.values.specs.Basic.{keep, nth, isSome, insertBy}
 use Rattle.values.specs.Value.{Value, null, boolean, integer, float, text, theNaN, normalised, isNull, isUndefined, same}
-use Rattle.values.specs.Sorted.{In}
+use Rattle.areas.specs.Sorted.{In}
 use Rattle.values.proofs.Floats.{normal-twice}
 use Rattle.values.proofs.Orders.{self, congʳ, ordValue, same-exact}
-use Rattle.values.proofs.Sorting.{insert-sorted, keep-sorted, insert-length, keep-length, in-keep, keep-in, find-in, any-false, in-insert, in-insert-new, replace-length}
+use Rattle.areas.proofs.Sorting.{insert-sorted, keep-sorted, insert-length, keep-length, in-keep, keep-in, find-in, any-false, in-insert, in-insert-new, replace-length}
 use Rattle.rules.specs.declared.profile.Profile.{Profile}
 use Rattle.rules.specs.State.{Name, sameName, Column, Table, Row, State, cmpTable, cmpRow, isNamed, tableNamed, ofTable, hasRow, cellAt, keyOf, rowOf, empty}
 use Rattle.rules.specs.Schema.{at, schemaFault}

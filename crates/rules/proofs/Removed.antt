@@ -7,9 +7,9 @@ use mathlib.Core.Option.{Option, none, some}
 use lib.Dec.{isEq}
 use Rattle.values.specs.Basic.{andThen, cmpBytes, any, keepIf, keep, maybe}
 use Rattle.values.specs.Value.{Value, cmpValue, same, among}
-use Rattle.values.specs.Sorted.{In}
+use Rattle.areas.specs.Sorted.{In}
 use Rattle.values.proofs.Orders.{self, congʳ, ordValue}
-use Rattle.values.proofs.Sorting.{find-in, find-none, in-keep, keep-in, any-in}
+use Rattle.areas.proofs.Sorting.{find-in, find-none, in-keep, keep-in, any-in}
 use Rattle.rules.specs.State.{Name, Table, Row, State, cmpRow, isNamed, ofTable, isRow, rowWith, rowsOf}
 use Rattle.rules.specs.Step.{Change, dropped, removed, apply, applyAll, withoutRow, removals}
 use Rattle.rules.proofs.Tests.{and-left, and-right, is-eq, name-is, name-of}

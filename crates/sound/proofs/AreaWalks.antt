@@ -8,9 +8,9 @@ use mathlib.Core.List.{List, [], map}
 use lib.ListN.{length, getD, take, drop, length-map, List·getD-map}
 use lib.Seq.{drop-drop}
 use Rattle.values.specs.Basic.{isLt}
-use Rattle.values.specs.Records.{records}
-use Rattle.values.proofs.Records.{length-records, getD-records}
-use Rattle.values.specs.Counted.{countAt}
+use Rattle.areas.specs.Records.{records}
+use Rattle.areas.proofs.Records.{length-records, getD-records}
+use Rattle.areas.specs.Counted.{countAt}
 use Rattle.rules.specs.declared.profile.Profile.{Profile}
 use Rattle.rules.specs.Layout.{lists, Area, countPlace, countWidth, areaAt, recordWidth, inArea}
 use Rattle.rules.specs.Sound.{every, sorted}

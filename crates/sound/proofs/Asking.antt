@@ -12,8 +12,8 @@ use Rattle.values.specs.Basic.{cmpBytes}
 use Rattle.values.specs.Bytes.{zeros, Bytes}
 use Rattle.values.specs.Value.{Value}
 use Rattle.values.specs.Cell.{readName, isNameCell, readValue, isCell}
-use Rattle.values.specs.Records.{records}
-use Rattle.values.specs.Search.{cmpNamed, cmpContent, cmpEntered}
+use Rattle.areas.specs.Records.{records}
+use Rattle.areas.specs.Search.{cmpNamed, cmpContent, cmpEntered}
 use Rattle.rules.specs.declared.profile.Profile.{Profile}
 use Rattle.rules.specs.Profile.{columnWidth, schemaWidth, entryWidth}
 use Rattle.rules.specs.State.{cmpTable}

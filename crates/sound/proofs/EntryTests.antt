@@ -11,10 +11,10 @@ use borrow.Author.Tests.{not-true, not-false, eq-eqb, ne-eqb}
 use Rattle.values.specs.Basic.{isLt, nth, maybe, orDefault}
 use Rattle.values.specs.Value.{Value, null, normalised, isUndefined, cmpValue}
 use Rattle.values.specs.Cell.{readName, readValue}
-use Rattle.values.specs.Records.{records}
-use Rattle.values.specs.Search.{cmpNamed, cmpContent, cmpEntered, SearchIn}
-use Rattle.values.specs.Sorted.{Sorted, countOf}
-use Rattle.values.specs.Counted.{countAt}
+use Rattle.areas.specs.Records.{records}
+use Rattle.areas.specs.Search.{cmpNamed, cmpContent, cmpEntered, SearchIn}
+use Rattle.areas.specs.Sorted.{Sorted, countOf}
+use Rattle.areas.specs.Counted.{countAt}
 use Rattle.values.proofs.Cells.{read-normal, normalised-twice}
 use Rattle.rules.specs.declared.profile.Profile.{Profile}
 use Rattle.rules.specs.State.{Name, Column, cellAt}

@@ -11,7 +11,7 @@ use lib.Seq.{length-take-le}
 use borrow.Author.Tests.{le-leb, lt-leb, eq-eqb, ne-eqb, not-true, not-false}
 use Rattle.values.specs.Bytes.{num, zeros}
 use Rattle.values.specs.Area.{part}
-use Rattle.values.specs.Counted.{countAt}
+use Rattle.areas.specs.Counted.{countAt}
 use Rattle.rules.specs.declared.profile.Profile.{Profile}
 use Rattle.rules.specs.Profile.{storeLength}
 use Rattle.rules.specs.Layout.{Area, Schemas, Rows, Entries, countPlace, countWidth, areaAt, recordWidth, areaPlaces, tablesCount, rowsCount, entriesCount}

@@ -13,17 +13,17 @@ use lib.ListN.{length}
 use borrow.Author.Tests.{eqb-true, eq-eqb, not-true, not-false}
 use Rattle.values.specs.Basic.{cmpBytes, nth, maybe, orDefault, keep, any}
 use Rattle.values.specs.Value.{Value, normalised, same, isUndefined, cmpValue}
-use Rattle.values.specs.Sorted.{In, Sorted}
+use Rattle.areas.specs.Sorted.{In, Sorted}
 use Rattle.values.proofs.Cells.{normalised-twice}
 use Rattle.values.proofs.Orders.{self, pull, ordℕ, ordBytes, ordValue, of-eq, sameValue, exactBytes, exactℕ, exactValue, cmp-normalised-right, eq≢lt, opp, same-exact, exact-same}
-use Rattle.values.proofs.Sorting.{in-keep, keep-in, any-false, find-in}
+use Rattle.areas.proofs.Sorting.{in-keep, keep-in, any-false, find-in}
 use Rattle.rules.specs.State.{Name, Column, Table, Row, cmpRow, isNamed, tableNamed, cellAt, sameName}
 use Rattle.rules.specs.Schema.{schemaFault, columnFault}
 use Rattle.rules.specs.Rows.{exists, taken}
 use Rattle.rules.specs.Index.{Entry, cmpEntry, entryAt, columnsOf, entriesOf, indexOf}
 use Rattle.rules.specs.Sound.{everyCell, ofItsTable}
 use Rattle.rules.proofs.Tests.{and-left, and-right, and-both, is-eq, name-is, name-of, same-normalised, orElse-none, first-none}
-use Rattle.values.proofs.Sorting.{any-in}
+use Rattle.areas.proofs.Sorting.{any-in}
 use Rattle.rules.proofs.Lists.{any-is, nth-in, nth-below, below-nth}
 use Rattle.rules.proofs.Cells.{cell-at, cells-of, cell-there}
 use Rattle.rules.proofs.Room.{column-passes}

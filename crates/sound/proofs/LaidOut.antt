@@ -11,12 +11,12 @@ use lib.Seq.{take-all, drop-at, drop-drop, drop-cons, take-add, take-take, lengt
 use borrow.Author.Tests.{leb-true, eqb-true, le-leb, eq-eqb}
 use Rattle.values.specs.Bytes.{be, num, zeros, Bytes}
 use Rattle.values.specs.Area.{part}
-use Rattle.values.specs.Records.{joined, records, area, filled}
-use Rattle.values.specs.Counted.{countAt}
+use Rattle.areas.specs.Records.{joined, records, area, filled}
+use Rattle.areas.specs.Counted.{countAt}
 use Rattle.values.proofs.Numbers.{be-num}
 use Rattle.values.proofs.Packing.{zeros-are, replicate-zeros, take-bytes, drop-bytes}
-use Rattle.values.proofs.Records.{length-records, length-joined}
-use Rattle.values.proofs.Counting.{area-framed}
+use Rattle.areas.proofs.Records.{length-records, length-joined}
+use Rattle.areas.proofs.Counting.{area-framed}
 use Rattle.rules.specs.declared.profile.Profile.{Profile}
 use Rattle.rules.specs.Profile.{headerWidth, rowsAt, entriesAt, entryWidth, storeLength, placesMost}
 use Rattle.rules.specs.Layout.{Lists, Area, Schemas, Rows, Entries, countPlace, countWidth, areaAt, recordWidth, areaPlaces, inArea, layout, lists, Laid}

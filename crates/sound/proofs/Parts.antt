@@ -9,10 +9,10 @@ use lib.ListN.{length, length-map}
 use borrow.Author.Tests.{eqb-true, eq-eqb, le-leb}
 use Rattle.values.specs.Basic.{isNone}
 use Rattle.values.specs.Bytes.{leqb, Bytes}
-use Rattle.values.specs.Sorted.{In, Sorted}
+use Rattle.areas.specs.Sorted.{In, Sorted}
 use Rattle.values.proofs.Scans.{leqb-refl, leqb-eq}
 use Rattle.values.proofs.Cells.{read-normal}
-use Rattle.values.proofs.Sorting.{find-in}
+use Rattle.areas.proofs.Sorting.{find-in}
 use Rattle.rules.specs.declared.profile.Profile.{Profile}
 use Rattle.rules.specs.Profile.{Known}
 use Rattle.rules.specs.State.{Table, Row, State, cmpTable, cmpRow, isNamed}

@@ -12,7 +12,7 @@ use borrow.Author.Tests.{eqb-true, eq-eqb}
 use Rattle.values.specs.Bytes.{leqb, zeros, Bytes}
 use Rattle.values.specs.Value.{Value}
 use Rattle.values.specs.Cell.{nameWidth, nameCell, readName, isNameCell, cellWidth, valueCell, readValue, isCell}
-use Rattle.values.specs.Records.{joined, records}
+use Rattle.areas.specs.Records.{joined, records}
 use Rattle.values.proofs.Packing.{take-bytes, drop-bytes}
 use Rattle.values.proofs.Cells.{length-name, read-name-short, read-name-bytes, read-normal, read-inside, read-storable-full, length-value}
 use Rattle.rules.specs.Sound.{every, goodName, canonical}

@@ -10,13 +10,13 @@ use lib.Dec.{isEq}
 use lib.ListN.{length, getD, take, drop, length-map, List·getD-map}
 use Rattle.values.specs.Basic.{cmpBytes, isLt, isSome, any, find}
 use Rattle.values.specs.Value.{Value, same}
-use Rattle.values.specs.Records.{records}
-use Rattle.values.specs.Search.{cmpKeyed, SearchIn}
-use Rattle.values.specs.Sorted.{In, Sorted, countOf}
-use Rattle.values.specs.Counted.{countAt}
+use Rattle.areas.specs.Records.{records}
+use Rattle.areas.specs.Search.{cmpKeyed, SearchIn}
+use Rattle.areas.specs.Sorted.{In, Sorted, countOf}
+use Rattle.areas.specs.Counted.{countAt}
 use Rattle.values.proofs.Orders.{Ord, exactBytes}
-use Rattle.values.proofs.Halving.{count-same, falls-same, count-map}
-use Rattle.values.proofs.Placing.{rank, holds, falls-sorted, holds-at, holds-past}
+use Rattle.areas.proofs.Halving.{count-same, falls-same, count-map}
+use Rattle.areas.proofs.Placing.{rank, holds, falls-sorted, holds-at, holds-past}
 use Rattle.rules.specs.declared.profile.Profile.{Profile}
 use Rattle.rules.specs.State.{Name, Table, Row, cmpRow, tableNamed, isRow, hasRow}
 use Rattle.rules.specs.Layout.{Area, Rows, countPlace, countWidth, areaAt, recordWidth, inArea, lists, parse, readRow, readTable}

@@ -10,10 +10,10 @@ use native.Mathlib.Omega.{arith}
 use lib.Dec.{isEq}
 use lib.ListN.{length, getD}
 use Rattle.values.specs.Basic.{andThen, nth}
-use Rattle.values.specs.Sorted.{In, Sorted}
+use Rattle.areas.specs.Sorted.{In, Sorted}
 use Rattle.values.proofs.Orders.{Ord, self, congʳ, eq≢lt, gt≢lt, opp}
-use Rattle.values.proofs.Sorting.{all-below, one-place, find-in}
-use Rattle.values.proofs.Placing.{rank, found-at, holds-in}
+use Rattle.areas.proofs.Sorting.{all-below, one-place, find-in}
+use Rattle.areas.proofs.Placing.{rank, found-at, holds-in}
 use Rattle.rules.proofs.Tests.{is-eq}
 use Rattle.rules.proofs.Lists.{nth-in}
 use Rattle.laid.proofs.Finding.{nth-getD}

@@ -13,10 +13,10 @@ use Rattle.values.specs.Basic.{isSome, orDefault, onlyIf}
 use Rattle.values.specs.Bytes.{leqb, zeros, pad, Bytes}
 use Rattle.values.specs.Value.{null}
 use Rattle.values.specs.Cell.{nameCell, readName, isNameCell, valueCell, readValue, isCell}
-use Rattle.values.specs.Records.{joined, records}
+use Rattle.areas.specs.Records.{joined, records}
 use Rattle.values.proofs.Packing.{drop-bytes}
 use Rattle.values.proofs.Cells.{null-zeros}
-use Rattle.values.proofs.Records.{length-records}
+use Rattle.areas.proofs.Records.{length-records}
 use Rattle.rules.specs.declared.profile.Profile.{Profile}
 use Rattle.rules.specs.Profile.{columnWidth, schemaWidth, entryWidth}
 use Rattle.rules.specs.Layout.{one, bit, flags, columnRecord, tableRecord, readColumn, readTable, entryRecord, readEntry}

@@ -14,13 +14,13 @@ use Rattle.values.specs.Basic.{andThen, cmpBytes, nth, maybe, orDefault}
 use Rattle.values.specs.Bytes.{leqb, zeros, pad, Bytes}
 use Rattle.values.specs.Value.{Value, null, normalised, isUndefined, cmpValue}
 use Rattle.values.specs.Cell.{nameCell, readName, isNameCell, valueCell, readValue, isCell}
-use Rattle.values.specs.Records.{joined, records}
-use Rattle.values.specs.Search.{cmpNamed, cmpKeyed}
-use Rattle.values.specs.Sorted.{In}
+use Rattle.areas.specs.Records.{joined, records}
+use Rattle.areas.specs.Search.{cmpNamed, cmpKeyed}
+use Rattle.areas.specs.Sorted.{In}
 use Rattle.values.proofs.Packing.{take-bytes, drop-bytes}
 use Rattle.values.proofs.Cells.{normalised-twice}
 use Rattle.values.proofs.Orders.{exactBytes, cmp-normalised, exact-same}
-use Rattle.values.proofs.Records.{length-records, getD-records}
+use Rattle.areas.proofs.Records.{length-records, getD-records}
 use Rattle.rules.specs.declared.profile.Profile.{Profile}
 use Rattle.rules.specs.Profile.{rowWidth}
 use Rattle.rules.specs.State.{Name, Table, cmpRow, tableNamed, keyOf, cellAt}

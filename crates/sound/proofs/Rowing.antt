@@ -12,10 +12,10 @@ use Rattle.values.specs.Basic.{andThen, cmpBytes, isNone, nth, orDefault}
 use Rattle.values.specs.Bytes.{zeros, Bytes}
 use Rattle.values.specs.Value.{Value, null, kindOf, isNull, isUndefined, normalised, cmpValue}
 use Rattle.values.specs.Cell.{readName, isNameCell, readValue, isCell}
-use Rattle.values.specs.Records.{records}
-use Rattle.values.specs.Search.{cmpKeyed}
+use Rattle.areas.specs.Records.{records}
+use Rattle.areas.specs.Search.{cmpKeyed}
 use Rattle.values.proofs.Orders.{cmp-normalised-right}
-use Rattle.values.proofs.Sorting.{find-in}
+use Rattle.areas.proofs.Sorting.{find-in}
 use Rattle.rules.specs.declared.profile.Profile.{Profile}
 use Rattle.rules.specs.Profile.{rowWidth}
 use Rattle.rules.specs.declared.answer.Refusal.{Refusal}

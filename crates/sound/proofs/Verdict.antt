@@ -7,9 +7,9 @@ use lib.Dec.{eqb}
 use lib.ListN.{length, length-map}
 use borrow.Author.Tests.{eq-eqb, ne-eqb}
 use Rattle.values.specs.Bytes.{leqb, Bytes}
-use Rattle.values.specs.Records.{Wide}
-use Rattle.values.specs.Counted.{countAt}
-use Rattle.values.specs.Sorted.{All}
+use Rattle.areas.specs.Records.{Wide}
+use Rattle.areas.specs.Counted.{countAt}
+use Rattle.areas.specs.Sorted.{All}
 use Rattle.values.proofs.Scans.{leqb-eq}
 use Rattle.rules.specs.declared.profile.Profile.{Profile}
 use Rattle.rules.specs.Profile.{schemaWidth, placesMost, storeLength}

@@ -11,10 +11,10 @@ use Rattle.values.specs.Basic.{isLt, any, maybe, nth}
 use Rattle.values.specs.Bytes.{num, leqb, zeros}
 use Rattle.values.specs.Value.{Value, same, isNull, isUndefined}
 use Rattle.values.specs.Cell.{isCell}
-use Rattle.values.specs.Records.{records}
+use Rattle.areas.specs.Records.{records}
 use Rattle.values.specs.Area.{part}
-use Rattle.values.specs.Counted.{countAt}
-use Rattle.values.specs.Sorted.{countOf}
+use Rattle.areas.specs.Counted.{countAt}
+use Rattle.areas.specs.Sorted.{countOf}
 use Rattle.rules.specs.declared.profile.Profile.{Profile}
 use Rattle.rules.specs.Profile.{storeLength}
 use Rattle.rules.specs.State.{Name, sameName, Column, Table, Row, cmpTable, cmpRow, tableNamed, keyOf}

@@ -1,12 +1,12 @@
 // The test of the index: its entries are sorted, those of the rows and no others, and alone where the column is unique.
 use super::row_test;
+use areas::search;
 use laid::catalog;
 use laid::catalog::Column;
 use laid::catalog::Found;
 use laid::layout;
 use rules::profile::Profile;
 use values::cell;
-use values::search;
 use values::value;
 use values::value::Order;
 use values::value::Text;

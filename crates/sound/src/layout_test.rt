@@ -1,7 +1,7 @@
 // The test of the layout: the header is right, and what is unused is zero.
+use areas::area;
 use laid::layout;
 use rules::profile::Profile;
-use values::area;
 use values::bytes;
 ghost use mathlib.Core.Path.{_≡_};
 ghost use Prim.Native.Nat.{_+_, _*_, _≤_};

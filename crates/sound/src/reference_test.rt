@@ -1,12 +1,12 @@
 // The test of the references: each that is not NULL names a stored row.
 use super::row_test;
+use areas::search;
 use laid::catalog;
 use laid::catalog::Column;
 use laid::catalog::Found;
 use laid::layout;
 use rules::profile::Profile;
 use values::cell;
-use values::search;
 use values::value;
 use values::value::Order;
 use values::value::Text;

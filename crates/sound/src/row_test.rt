@@ -1,4 +1,5 @@
 // The test of the rows: each is a record that fits its table, and they are sorted by table and key.
+use areas::search;
 use laid::catalog;
 use laid::catalog::Column;
 use laid::catalog::Found;
@@ -6,7 +7,6 @@ use laid::layout;
 use rules::profile::Profile;
 use values::bytes;
 use values::cell;
-use values::search;
 use values::value;
 use values::value::Cell;
 use values::value::Order;
@@ -18,7 +18,7 @@ ghost use lib.ListN.{length, drop};
 ghost use Rattle.values.specs.Basic.{isLt};
 ghost use Rattle.values.specs.Meaning.{meaning, held, ProperCell};
 ghost use Rattle.values.specs.Cell.{isCell, readValue};
-ghost use Rattle.values.specs.Records.{records};
+ghost use Rattle.areas.specs.Records.{records};
 ghost use Rattle.rules.specs.Profile.{rowWidth};
 ghost use Rattle.rules.specs.State.{cmpRow};
 ghost use Rattle.rules.specs.Layout.{lists, readTable, readRow, parse};

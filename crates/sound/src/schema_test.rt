@@ -1,11 +1,11 @@
 // The test of the schemas: each is a table's record, they are sorted by name, and each passes 4 to 18.
+use areas::search;
 use laid::layout;
 use rules::answer;
 use rules::profile::Profile;
 use store::schema;
 use values::bytes;
 use values::cell;
-use values::search;
 use values::value::Order;
 ghost use mathlib.Core.Path.{_≡_};
 ghost use mathlib.Core.Bool.{cond};
@@ -15,7 +15,7 @@ ghost use Rattle.values.specs.Bytes.{zeros};
 ghost use Rattle.values.specs.Basic.{isLt, isNone};
 ghost use Rattle.values.specs.Area.{part};
 ghost use Rattle.values.specs.Cell.{nameWidth, cellWidth, isNameCell, isCell};
-ghost use Rattle.values.specs.Records.{records};
+ghost use Rattle.areas.specs.Records.{records};
 ghost use Rattle.rules.specs.Profile.{columnWidth, schemaWidth};
 ghost use Rattle.rules.specs.State.{cmpTable};
 ghost use Rattle.rules.specs.Schema.{schemaFault};

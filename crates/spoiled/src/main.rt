@@ -1,9 +1,9 @@
 // Tests lent stores for soundness: a list from standard input has one sound store and then cases, each some changed bytes and the verdict that it
 // must get. Shows a line for each case whose verdict is another, and at the end how many were sound, how many not, and how many were wrong.
+use areas::area;
 use libc::STDIN_FILENO;
 use libc::STDOUT_FILENO;
 use sound::soundness;
-use values::area;
 use values::bytes;
 
 // The number in the four bytes at a position, 0 where they run past the end.

@@ -10,12 +10,12 @@ use lib.ListN.{length, take, drop, replicate, length-replicate}
 use Rattle.values.specs.Basic.{isLt, cmpBytes, insertBy}
 use Rattle.values.specs.Area.{withRecord}
 use Rattle.values.specs.Cell.{readName}
-use Rattle.values.specs.Counted.{countAt, Grows, grown}
-use Rattle.values.specs.Records.{records}
-use Rattle.values.specs.Sorted.{In, countOf, insertAt, replaceAt}
-use Rattle.values.proofs.Changes.{length-insert-at, replace-insert}
-use Rattle.values.proofs.Placing.{rank, holds, insert-new}
-use Rattle.values.proofs.Sorting.{find-none}
+use Rattle.areas.specs.Counted.{countAt, Grows, grown}
+use Rattle.areas.specs.Records.{records}
+use Rattle.areas.specs.Sorted.{In, countOf, insertAt, replaceAt}
+use Rattle.areas.proofs.Changes.{length-insert-at, replace-insert}
+use Rattle.areas.proofs.Placing.{rank, holds, insert-new}
+use Rattle.areas.proofs.Sorting.{find-none}
 use Rattle.rules.specs.declared.profile.Profile.{Profile}
 use Rattle.rules.specs.declared.answer.Answer.{Answer}
 use Rattle.rules.specs.declared.answer.Refusal.the-variants.{TableExists, TablesFull}

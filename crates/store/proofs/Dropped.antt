@@ -7,13 +7,13 @@ use native.Mathlib.Omega.{arith}
 use mathlib.Core.List.{List}
 use lib.ListN.{length, length-map}
 use Rattle.values.specs.Basic.{keep}
-use Rattle.values.specs.Counted.{Shrinks, shrunk}
+use Rattle.areas.specs.Counted.{Shrinks, shrunk}
 use Rattle.values.specs.declared.value.Value.the-variants.{Null}
 use Rattle.values.specs.Meaning.{textBytes, meaning}
 use Rattle.values.specs.Value.{null}
-use Rattle.values.specs.Sorted.{removeRun}
-use Rattle.values.proofs.Changes.{remove-one}
-use Rattle.values.proofs.Placing.{rank, holds, keep-others}
+use Rattle.areas.specs.Sorted.{removeRun}
+use Rattle.areas.proofs.Changes.{remove-one}
+use Rattle.areas.proofs.Placing.{rank, holds, keep-others}
 use Rattle.rules.specs.declared.profile.Profile.{Profile}
 use Rattle.rules.specs.declared.answer.Answer.{Answer}
 use Rattle.rules.specs.Profile.{headerWidth, schemaWidth}

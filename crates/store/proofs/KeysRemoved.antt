@@ -10,7 +10,7 @@ use lib.ListN.{length}
 use Rattle.values.specs.Basic.{isNil, keep, nth, orDefault, maybe}
 use Rattle.values.specs.Value.{Value}
 use Rattle.values.specs.Meaning.{textBytes, held}
-use Rattle.values.proofs.Sorting.{keep-sorted, keep-length, in-keep, find-in}
+use Rattle.areas.proofs.Sorting.{keep-sorted, keep-length, in-keep, find-in}
 use Rattle.rules.specs.declared.profile.Profile.{Profile}
 use Rattle.rules.specs.declared.answer.Answer.{Answer}
 use Rattle.rules.specs.declared.answer.Refusal.the-variants.{UnknownTable, RowReferenced}

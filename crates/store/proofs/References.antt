@@ -10,7 +10,7 @@ use lib.ListN.{length, drop, getD, drop-of-length-le}
 use Rattle.values.specs.Basic.{cmpBytes, _orElse_}
 use Rattle.values.specs.Cell.{readName}
 use Rattle.values.specs.Meaning.{textBytes}
-use Rattle.values.specs.Search.{cmpNamed}
+use Rattle.areas.specs.Search.{cmpNamed}
 use Rattle.values.specs.Value.{null}
 use Rattle.rules.specs.declared.profile.Profile.{Profile}
 use Rattle.rules.specs.State.{Name, Column, Table}

@@ -8,7 +8,7 @@ use mathlib.Core.List.{List, []}
 use lib.ListN.{length, getD}
 use Rattle.values.specs.Basic.{nth}
 use Rattle.values.specs.Cell.{nameWidth, readName}
-use Rattle.values.specs.Counted.{countAt}
+use Rattle.areas.specs.Counted.{countAt}
 use Rattle.values.specs.Meaning.{textBytes, Packed, held, Proper}
 use Rattle.values.specs.declared.value.Cell.{Cell}
 use Rattle.values.specs.declared.value.Text.{Text}

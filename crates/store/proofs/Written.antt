@@ -9,11 +9,11 @@ use lib.ListN.{length, take, length-map}
 use lib.Seq.{length-take-le}
 use Rattle.values.specs.Basic.{isNil, nth, orDefault, maybe, keep}
 use Rattle.values.specs.Value.{Value, same}
-use Rattle.values.specs.Sorted.{All}
+use Rattle.areas.specs.Sorted.{All}
 use Rattle.values.specs.Meaning.{textBytes, held, ProperCell}
 use Rattle.values.specs.declared.value.Cell.{Cell}
 use Rattle.values.proofs.Cells.{proper-storable}
-use Rattle.values.proofs.Sorting.{find-in}
+use Rattle.areas.proofs.Sorting.{find-in}
 use Rattle.rules.specs.declared.profile.Profile.{Profile}
 use Rattle.rules.specs.declared.answer.Answer.{Answer}
 use Rattle.rules.specs.declared.answer.Refusal.{Refusal}

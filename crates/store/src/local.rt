@@ -1,6 +1,7 @@
 // The catalog (local.rs: `create_table`, `drop_table`, `get_table`, `list_tables`, `table_references`).
 use super::schema;
-use changes::drop;
+use areas::area;
+use areas::search;
 use laid::catalog;
 use laid::catalog::Found;
 pub use laid::catalog::get_table;
@@ -8,13 +9,12 @@ use laid::layout;
 use laid::layout::HEADER_WIDTH;
 use laid::layout::TABLES_BYTES;
 use laid::layout::TABLES_COUNT;
+use laid::run;
 use rules::answer;
 use rules::answer::Answer;
 use rules::answer::Refusal;
 use rules::profile::Profile;
-use values::area;
 use values::cell;
-use values::search;
 use values::value;
 use values::value::Order;
 use values::value::Text;
@@ -152,8 +152,8 @@ pub fn drop_table(s: &mut [u8], p: Profile, places: usize, name: Text, lenient: 
     if r.found {
         return answer::carrying(Refusal::TableReferenced, 0, r.table, r.column, Value::Null);
     }
-    drop::drop_entries(s, p, places, name);
-    drop::drop_rows(s, p, places, name);
+    run::drop_entries(s, p, places, name);
+    run::drop_rows(s, p, places, name);
     area::close_counted(
         s,
         TABLES_COUNT,

@@ -2,17 +2,7 @@ pub mod Numbers
 pub mod Scans
 pub mod Parts
 pub mod Shifts
-pub mod Nest
-pub mod Records
-pub mod Changes
-pub mod Places
-pub mod Counting
 pub mod Orders
-pub mod Sorting
-pub mod Placing
-pub mod Runs
-pub mod Halving
-pub mod Answers
 pub mod Signed
 pub mod Floats
 pub mod Packing

@@ -6,7 +6,3 @@ pub mod Cell
 pub mod Read
 pub mod Print
 pub mod Area
-pub mod Records
-pub mod Counted
-pub mod Sorted
-pub mod Search

@@ -4,7 +4,7 @@ ghost use mathlib.Core.Bool.{cond};
 ghost use Prim.Native.Nat.{compare};
 ghost use lib.Dec.{T};
 ghost use lib.Ieee as Ieee;
-ghost use lib.Ieee.{binary64, ofBits, toBits};
+ghost use lib.Ieee.{binary64, toBits};
 ghost use mir.Syntax.{w64};
 ghost use mir.Val.{ofZ, toZ};
 ghost use Rattle.values.specs.Basic.{cmpBytes, cmpℤ};

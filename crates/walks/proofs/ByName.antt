@@ -8,9 +8,9 @@ use mathlib.Core.List.{List, [], _∷_}
 use lib.Dec.{isEq}
 use Rattle.values.specs.Basic.{isLt, cmpBytes, keep}
 use Rattle.values.specs.Cell.{readName}
-use Rattle.values.specs.Sorted.{In, All, countOf, Falls}
+use Rattle.areas.specs.Sorted.{In, All, countOf, Falls}
 use Rattle.values.proofs.Orders.{gt≢lt}
-use Rattle.values.proofs.Runs.{key-leads}
+use Rattle.areas.proofs.Runs.{key-leads}
 use Rattle.rules.specs.declared.profile.Profile.{Profile}
 use Rattle.rules.specs.Profile.{Known}
 use Rattle.rules.specs.State.{Name, Table, Row, State, cmpTable, cmpRow, ofTable}

@@ -9,9 +9,9 @@ use mathlib.Core.Option.{none, some, Option·none-ne-some, Option·some-injectiv
 use lib.ListN.{length, length-map}
 use Rattle.values.specs.Basic.{isLt, find, keep}
 use Rattle.values.specs.Value.{Value, null, boolean, integer, float, text, isUndefined, before, among, cmpValue}
-use Rattle.values.specs.Sorted.{In, Sorted}
+use Rattle.areas.specs.Sorted.{In, Sorted}
 use Rattle.values.proofs.Orders.{ordValue, self, opp, lt-at}
-use Rattle.values.proofs.Sorting.{all-below, find-in, find-none, in-keep, keep-sorted, keep-length}
+use Rattle.areas.proofs.Sorting.{all-below, find-in, find-none, in-keep, keep-sorted, keep-length}
 use Rattle.rules.specs.declared.profile.Profile.{Profile}
 use Rattle.rules.specs.State.{Name, Row, cmpRow, ofTable, cellAt}
 use Rattle.rules.specs.Layout.{parse}

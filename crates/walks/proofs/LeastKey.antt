@@ -6,9 +6,9 @@ use mathlib.Core.List.{List, [], _∷_, map}
 use mathlib.Core.Option.{Option, none, some, Option·some-injective}
 use Rattle.values.specs.Basic.{isLt, find, keep}
 use Rattle.values.specs.Value.{Value, same, before, among, cmpValue}
-use Rattle.values.specs.Sorted.{Sorted}
+use Rattle.areas.specs.Sorted.{Sorted}
 use Rattle.values.proofs.Orders.{ordValue, self, congʳ, opp, lt-at, before-trans}
-use Rattle.values.proofs.Sorting.{all-below, find-in, in-keep}
+use Rattle.areas.proofs.Sorting.{all-below, find-in, in-keep}
 use Rattle.rules.specs.State.{Name, Row, cmpRow, ofTable, cellAt}
 use Rattle.rules.proofs.Tests.{and-left, and-no, name-is}
 use Rattle.rules.proofs.Lists.{in-map, keep-nothing, keep-ext}

@@ -12,12 +12,12 @@ use lib.ListN.{length, getD, take, drop, length-map}
 use Rattle.values.specs.Basic.{andThen, isLt, find, keep, nth}
 use Rattle.values.specs.Value.{Value, null, before, among, cmpValue, normalised}
 use Rattle.values.specs.Cell.{cellWidth, readValue}
-use Rattle.values.specs.Search.{cmpEntered}
-use Rattle.values.specs.Sorted.{In, Sorted, Falls, countOf}
-use Rattle.values.specs.Counted.{countAt}
+use Rattle.areas.specs.Search.{cmpEntered}
+use Rattle.areas.specs.Sorted.{In, Sorted, Falls, countOf}
+use Rattle.areas.specs.Counted.{countAt}
 use Rattle.values.proofs.Orders.{Ord, congʳ, opp}
-use Rattle.values.proofs.Placing.{rank, falls-sorted}
-use Rattle.values.proofs.Sorting.{all-below}
+use Rattle.areas.proofs.Placing.{rank, falls-sorted}
+use Rattle.areas.proofs.Sorting.{all-below}
 use Rattle.rules.specs.declared.profile.Profile.{Profile}
 use Rattle.rules.specs.State.{Name, Row, State, ofTable, cellAt}
 use Rattle.rules.specs.Index.{Entry, cmpEntry, indexOf}

@@ -12,12 +12,12 @@ use lib.Dec.{isEq}
 use lib.ListN.{length, take, drop, getD, drop-of-length-le}
 use Rattle.values.specs.Basic.{isLt, cmpBytes, nth}
 use Rattle.values.specs.Cell.{readName}
-use Rattle.values.specs.Counted.{countAt}
-use Rattle.values.specs.Records.{records}
-use Rattle.values.specs.Search.{cmpNamed}
-use Rattle.values.specs.Sorted.{Sorted, countOf}
+use Rattle.areas.specs.Counted.{countAt}
+use Rattle.areas.specs.Records.{records}
+use Rattle.areas.specs.Search.{cmpNamed}
+use Rattle.areas.specs.Sorted.{Sorted, countOf}
 use Rattle.values.proofs.Orders.{ordBytes}
-use Rattle.values.proofs.Runs.{runAt, none-before}
+use Rattle.areas.proofs.Runs.{runAt, none-before}
 use Rattle.rules.specs.declared.profile.Profile.{Profile}
 use Rattle.rules.specs.Profile.{rowsAt, rowWidth}
 use Rattle.rules.specs.State.{Name, Row, cmpRow, ofTable}

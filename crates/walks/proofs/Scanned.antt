@@ -6,11 +6,11 @@ use mathlib.Core.List.{List, map}
 use lib.ListN.{length, take, drop}
 use Rattle.values.specs.Basic.{cmpBytes}
 use Rattle.values.specs.Cell.{readName}
-use Rattle.values.specs.Counted.{countAt}
-use Rattle.values.specs.Records.{records}
-use Rattle.values.specs.Sorted.{All, Sorted, countOf}
+use Rattle.areas.specs.Counted.{countAt}
+use Rattle.areas.specs.Records.{records}
+use Rattle.areas.specs.Sorted.{All, Sorted, countOf}
 use Rattle.values.proofs.Orders.{ordBytes}
-use Rattle.values.proofs.Runs.{runAt, runLength, run-within, keep-run}
+use Rattle.areas.proofs.Runs.{runAt, runLength, run-within, keep-run}
 use Rattle.rules.specs.declared.profile.Profile.{Profile}
 use Rattle.rules.specs.Profile.{rowsAt, rowWidth}
 use Rattle.rules.specs.State.{Name, Row, cmpRow}

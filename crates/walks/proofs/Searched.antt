@@ -12,10 +12,10 @@ use lib.ListN.{length, take, drop, getD, drop-of-length-le}
 use Rattle.values.specs.Basic.{any, find, keepIf, nth, orDefault, _orElse_}
 use Rattle.values.specs.Value.{Value, among}
 use Rattle.values.specs.Cell.{readName}
-use Rattle.values.specs.Sorted.{In}
+use Rattle.areas.specs.Sorted.{In}
 use Rattle.values.specs.declared.value.Text.{Text}
 use Rattle.values.specs.Meaning.{textBytes, Packed}
-use Rattle.values.proofs.Sorting.{in-keep}
+use Rattle.areas.proofs.Sorting.{in-keep}
 use Rattle.rules.specs.declared.profile.Profile.{Profile}
 use Rattle.rules.specs.State.{Name, sameName, Column, Table, Row, ofTable, rowsOf, cellAt}
 use Rattle.rules.specs.Request.{Carried, carriedBy}

@@ -11,7 +11,7 @@ use borrow.Author.Tests.{eq-eqb, ne-eqb, not-true, not-false}
 use Rattle.values.specs.Basic.{any, find, isSome, nth, onlyIf, orDefault, maybe}
 use Rattle.values.specs.Value.{Value, same}
 use Rattle.values.specs.Cell.{nameWidth, readName}
-use Rattle.values.specs.Sorted.{In}
+use Rattle.areas.specs.Sorted.{In}
 use Rattle.rules.specs.declared.profile.Profile.{Profile}
 use Rattle.rules.specs.State.{Name, sameName, Column, Table, Row, tableNamed, ofTable, isRow, hasRow, cellAt}
 use Rattle.rules.specs.Layout.{lists, parse}

@@ -7,9 +7,9 @@ use mathlib.Core.List.{List}
 use lib.Dec.{eqb}
 use Rattle.values.specs.Basic.{any}
 use Rattle.values.specs.Value.{Value, same, among}
-use Rattle.values.specs.Sorted.{In}
-use Rattle.values.proofs.Placing.{find-nothing}
-use Rattle.values.proofs.Sorting.{any-in}
+use Rattle.areas.specs.Sorted.{In}
+use Rattle.areas.proofs.Placing.{find-nothing}
+use Rattle.areas.proofs.Sorting.{any-in}
 use Rattle.rules.specs.State.{Name, sameName, Column, Table, Row, ofTable, cellAt}
 use Rattle.rules.specs.Rows.{referring}
 use Rattle.rules.proofs.Lists.{any-is, any-none}

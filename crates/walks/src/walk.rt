@@ -1,4 +1,5 @@
 // A table's rows by place (local.rs: `scan`), and the keys of an indexed value, one after the other.
+use areas::search;
 use checks::row_fault;
 use laid::catalog::Found;
 use laid::entry;
@@ -8,7 +9,6 @@ use rules::profile::Profile;
 use values::cell;
 use values::read;
 use values::read::ReadCell;
-use values::search;
 use values::value;
 use values::value::Cell;
 use values::value::Order;

@@ -7,7 +7,7 @@ use lib.Dec.{isEq}
 use lib.ListN.{length, length-take, length-drop}
 use Rattle.values.specs.Meaning.{ordering, textBytes}
 use Rattle.values.specs.declared.value.Order.{Order}
-use Rattle.values.proofs.Records.{place-fits}
+use Rattle.areas.proofs.Records.{place-fits}
 use Rattle.laid.proofs.Searching.{not-same}
 use Rattle.laid.proofs.Runs.{RunTo, run-start, run-on, run-over, run-past}
 use Rattle.laid.proofs.run.run_from.Statement.{statement}

@@ -9,7 +9,7 @@ use Rattle.values.specs.Meaning.{textBytes, Packed}
 use Rattle.values.specs.Read.{got, nameAt, nameRead, ProperName, cellRead, ProperRead}
 use Rattle.values.proofs.Parts.{mid-long}
 use Rattle.changes.proofs.Writing.{named-long}
-use Rattle.operations.proofs.ValuesFrom.{never-broken}
+use Rattle.mapping.proofs.ValuesFrom.{never-broken}
 use Rattle.operations.proofs.SchemaWritten.{ColumnGot, column-got, column-name, moved, column-wide, Led, led-long, Defaulted, default-written, default-left, default-broken, default-long, Columned, reference-written, reference-left, reference-broken}
 use borrow.Rule.Slice.PartMut.{putMid}
 use borrow.Author.Needs.{needs}

@@ -5,7 +5,7 @@ use native.Mathlib.Omega.{arith}
 use lib.ListN.{length, drop, replicate, length-set}
 use borrow.Author.Needs.{needs}
 use mathlib.Core.Bool.{true}
-use Rattle.operations.specs.Got.{isGot}
+use Rattle.mapping.specs.Got.{isGot}
 use Rattle.records.specs.Reading.{times}
 use Rattle.records.specs.Record.{columnAt}
 use Rattle.values.specs.Bytes.{Bytes}
@@ -17,7 +17,7 @@ use Rattle.values.proofs.Parts.{mid-long}
 use Rattle.rules.specs.Profile.{schemaWidth}
 use Rattle.rules.proofs.Widths.{schema-most}
 use Rattle.changes.proofs.Writing.{named-long}
-use Rattle.operations.proofs.ValuesFrom.{never-broken}
+use Rattle.mapping.proofs.ValuesFrom.{never-broken}
 use Rattle.operations.proofs.SchemaWritten.{create-name, SchemaGot, schema-got, Schemed, schema-start, schema-inside, column-room, column-inside, column-requires, schema-next, leading, schemaLead, lead-is, schema-least, schema-led-long, schema-led, schema-written}
 use mathlib.Core.List.{List, _++_}
 use Rattle.operations.proofs.create.write_schema.Statement.{statement}

@@ -6,8 +6,8 @@ use Rattle.rules.specs.Layout.{parse}
 use Rattle.rules.specs.Request.{Names}
 use Rattle.laid.proofs.Inside.{inside-header}
 use Rattle.laid.proofs.Stores.{held-inside}
-use Rattle.operations.specs.Got.{gotOr}
-use Rattle.operations.proofs.ValuesFrom.{got-gives}
+use Rattle.mapping.specs.Got.{gotOr}
+use Rattle.mapping.proofs.ValuesFrom.{got-gives}
 use Rattle.operations.proofs.Asked.{is-get, is-lookup, is-scan, is-names, got-as, replied-as, names-answered, tables-counted, reads-known}
 use Rattle.operations.proofs.operate.ask.Statement.{statement}
 use Rattle.operations.proofs.operate.ask.Tie as tie

@@ -23,8 +23,8 @@ use Rattle.records.specs.Record.{insertAt}
 use Rattle.laid.proofs.Columns.{record-least}
 use Rattle.laid.proofs.Stores.{store-inside, store-catalog}
 use Rattle.store.proofs.References.{answer-is}
-use Rattle.operations.specs.Got.{gotOr}
-use Rattle.operations.specs.Mapped.{mapOf, rowsAt}
+use Rattle.mapping.specs.Got.{gotOr}
+use Rattle.mapping.specs.Mapped.{mapOf, rowsAt}
 use Rattle.operations.proofs.Naming.{named-below, named-place, named-bytes, named-is, named-count}
 use Rattle.operations.proofs.Operands.{packed, fault-some, fault-none}
 use Rattle.operations.proofs.InsertRead.{InsertSaid, insert-unnamed, map-got, map-whole, insert-said, acted-unknown, acted-bad, acted-faulty, acted-rows}

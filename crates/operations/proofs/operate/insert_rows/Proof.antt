@@ -9,7 +9,7 @@ use Rattle.laid.specs.Row.{FullRow}
 use Rattle.laid.proofs.RowFacts.{start-table}
 use Rattle.laid.proofs.Stores.{store-inside, laid-store}
 use Rattle.operations.proofs.Inserting.{Inserting, Turned, inserting-start, inserting-end, inserting-record, inserting-full, inserting-turn}
-use Rattle.operations.proofs.Mapping.{row-inside, row-whole}
+use Rattle.mapping.proofs.Mapping.{row-inside, row-whole}
 use Rattle.operations.proofs.operate.insert_rows.Statement.{statement}
 use Rattle.operations.proofs.operate.insert_rows.Tie as tie
 

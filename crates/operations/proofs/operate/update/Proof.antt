@@ -21,8 +21,8 @@ use Rattle.records.specs.Reading.{times}
 use Rattle.records.specs.Record.{pairAt, updateAt}
 use Rattle.laid.proofs.Stores.{store-catalog, store-inside}
 use Rattle.store.proofs.References.{answer-is}
-use Rattle.operations.specs.Got.{isGot, gotOr}
-use Rattle.operations.specs.Mapped.{pairsAt}
+use Rattle.mapping.specs.Got.{isGot, gotOr}
+use Rattle.mapping.specs.Mapped.{pairsAt}
 use Rattle.operations.proofs.Naming.{named-below, named-place, named-bytes, named-is}
 use Rattle.operations.proofs.Operands.{packed, update-unnamed, update-read, pairs-got, update-inside, update-acted, fault-some, fault-none, update-missed, update-not-rising, update-not-sized, update-in-turn}
 use Rattle.operations.proofs.operate.update.Statement.{statement}

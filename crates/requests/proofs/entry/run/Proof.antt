@@ -15,7 +15,7 @@ use Rattle.rules.specs.Request.{Request}
 use Rattle.rules.specs.Readable.{readable}
 use Rattle.records.specs.Record.{requestOf}
 use Rattle.requests.proofs.Answering.{broken-answered, broken-outcome}
-use Rattle.operations.proofs.Read.{read-readable}
+use Rattle.mapping.proofs.Read.{read-readable}
 use Rattle.requests.proofs.Running.{Running, Passed, run-start, pass-start, pass-whole, pass-skip, pass-past, pass-cut, more-ended, cut-ended, done-ended, ran-full, ran-waiting, ran-stopped, end-left, none-more, none-done, cut-moves, cut-left, whole-moves, whole-left, skip-moves, skip-left, skip-past, part-bytes, wide-in, run-on, run-stays, stays-full}
 use Rattle.requests.proofs.entry.run.Statement.{statement}
 use Rattle.requests.proofs.entry.run.Tie as tie

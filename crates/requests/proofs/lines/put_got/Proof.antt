@@ -16,7 +16,7 @@ use Rattle.store.proofs.References.{answer-is}
 use Rattle.checks.proofs.Taking.{null-proper}
 use Rattle.requests.proofs.NextLines.{Passing, passing-read, passing-start, passing-on, passing-missing, passing-found, passing-end, row-inside, row-found, row-named, got-lined, got-none}
 use Rattle.checks.proofs.KeysRead.{values-end, values-got, values-broken}
-use Rattle.operations.proofs.ValuesFrom.{cell-proper}
+use Rattle.mapping.proofs.ValuesFrom.{cell-proper}
 use Rattle.requests.proofs.lines.put_got.Statement.{statement}
 use Rattle.requests.proofs.lines.put_got.Tie as tie
 

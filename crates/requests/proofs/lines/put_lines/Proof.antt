@@ -17,7 +17,7 @@ use Rattle.values.specs.declared.value.Cell.{Cell}
 use Rattle.rules.specs.declared.profile.Profile.{Profile}
 use Rattle.rules.specs.Layout.{parse}
 use Rattle.rules.specs.Request.{Names, Reply}
-use Rattle.operations.specs.Got.{gotOr}
+use Rattle.mapping.specs.Got.{gotOr}
 use Rattle.records.specs.Record.{requestOf}
 use Rattle.operations.specs.Told.{outcomeOf}
 use Rattle.requests.specs.Places.{linesFrom}

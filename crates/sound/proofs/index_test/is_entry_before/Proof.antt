@@ -2,7 +2,7 @@
 use mathlib.Core.Path.{_≡_}
 use native.Mathlib.Omega.{arith}
 use lib.ListN.{length}
-use Rattle.values.proofs.Answers.{not-less}
+use Rattle.areas.proofs.Answers.{not-less}
 use Rattle.rules.specs.Profile.{entryWidth}
 use Rattle.sound.proofs.Asking.{entered-order}
 use Rattle.laid.proofs.Searching.{less-is, less-not}

@@ -4,7 +4,7 @@ use Prim.Native.Nat.{_-_, _+_, _*_, _≤_}
 use native.Mathlib.Omega.{arith}
 use lib.ListN.{length, drop}
 use Rattle.values.specs.Cell.{isCell}
-use Rattle.values.specs.Records.{records}
+use Rattle.areas.specs.Records.{records}
 use Rattle.sound.proofs.Headers.{area-long}
 use Rattle.sound.proofs.Rowing.{row-cell-fits}
 use Rattle.sound.proofs.AreaWalks.{part-turn, part-end}

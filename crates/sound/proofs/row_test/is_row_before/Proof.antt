@@ -4,7 +4,7 @@ use Prim.Native.Nat.{_≤_}
 use native.Mathlib.Omega.{arith}
 use lib.ListN.{length}
 use Rattle.values.specs.Meaning.{textBytes}
-use Rattle.values.proofs.Answers.{not-less}
+use Rattle.areas.proofs.Answers.{not-less}
 use Rattle.rules.specs.Profile.{rowWidth}
 use Rattle.sound.specs.Tested.{Here}
 use Rattle.laid.proofs.Searching.{less-is, less-not}

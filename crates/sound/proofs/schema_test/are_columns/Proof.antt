@@ -4,7 +4,7 @@ use Prim.Native.Nat.{_-_, _+_, _*_, _≤_}
 use native.Mathlib.Omega.{arith}
 use lib.ListN.{length, drop}
 use borrow.Author.Needs.{needs}
-use Rattle.values.specs.Records.{records}
+use Rattle.areas.specs.Records.{records}
 use Rattle.rules.specs.Profile.{columnWidth}
 use Rattle.sound.specs.Tested.{isColumn}
 use Rattle.sound.proofs.Headers.{area-long}

@@ -1,5 +1,5 @@
 -- `sound::schema_test::is_table_before` meets its contract. Assumes nothing.
-use Rattle.values.proofs.Answers.{not-less}
+use Rattle.areas.proofs.Answers.{not-less}
 use Rattle.sound.proofs.Asking.{named-order}
 use Rattle.laid.proofs.Searching.{less-is, less-not}
 use borrow.Author.Needs.{needs}

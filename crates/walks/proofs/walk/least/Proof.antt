@@ -3,7 +3,7 @@ use mathlib.Core.Path.{sym, ap, _∙_}
 use Rattle.values.specs.Basic.{isLt}
 use Rattle.values.specs.Meaning.{held, ordering}
 use Rattle.values.specs.declared.value.Order.{Order}
-use Rattle.values.proofs.Answers.{not-less}
+use Rattle.areas.proofs.Answers.{not-less}
 use Rattle.walks.proofs.LeastKey.{first-missing, second-missing, second-least, first-least}
 use borrow.Author.Needs.{needs}
 use Rattle.walks.proofs.walk.least.Statement.{statement}

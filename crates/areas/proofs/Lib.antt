@@ -1,0 +1,10 @@
+pub mod Nest
+pub mod Records
+pub mod Changes
+pub mod Places
+pub mod Counting
+pub mod Sorting
+pub mod Placing
+pub mod Runs
+pub mod Halving
+pub mod Answers

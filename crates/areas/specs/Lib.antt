@@ -1,0 +1,4 @@
+pub mod Records
+pub mod Counted
+pub mod Sorted
+pub mod Search

@@ -1,0 +1,4 @@
+pub mod Read
+pub mod ValuesFrom
+pub mod Mapping
+pub mod Pairs

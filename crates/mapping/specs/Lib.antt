@@ -1,0 +1,2 @@
+pub mod Got
+pub mod Mapped
