@@ -8,10 +8,10 @@ use mathlib.Core.List.{List, [], _∷_}
 use Rattle.values.specs.Basic.{any}
 use Rattle.values.specs.Value.{Value}
 use Rattle.values.specs.Meaning.{held}
-use Rattle.values.specs.Read.{got, broken, valueAt, cellRead, CellRead}
+use Rattle.forms.specs.Read.{got, broken, valueAt, cellRead, CellRead}
 use Rattle.values.specs.declared.value.Cell.{Cell}
-use Rattle.values.specs.declared.read.ReadCell.{ReadCell}
-use Rattle.values.specs.declared.read.ReadCell.the-variants.{Got, Broken}
+use Rattle.forms.specs.declared.read.ReadCell.{ReadCell}
+use Rattle.forms.specs.declared.read.ReadCell.the-variants.{Got, Broken}
 use Rattle.checks.specs.Keys.{onRead, valuesFrom}
 
 -- no more are asked for

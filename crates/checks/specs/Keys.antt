@@ -2,7 +2,7 @@
 use Prim.Native.Nat.{ℕ, zero, suc}
 use mathlib.Core.List.{List, [], _∷_}
 use Rattle.values.specs.Value.{Value}
-use Rattle.values.specs.Read.{Read, got, broken, valueAt}
+use Rattle.forms.specs.Read.{Read, got, broken, valueAt}
 
 -- by cases on a reading; shut, so that a proof can read its arguments off a goal
 unfoldable pub onRead : {A B : Type 0} → Read A → B → (A → ℕ → B) → B

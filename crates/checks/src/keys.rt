@@ -1,7 +1,7 @@
 // Keys as they stand in a request's bytes: read in place by the cursor, nothing is copied out.
 use super::row_fault;
-use values::read;
-use values::read::ReadCell;
+use forms::read;
+use forms::read::ReadCell;
 use values::value::Value;
 ghost use mathlib.Core.Path.{_≡_};
 ghost use Rattle.values.specs.Value.{among};

@@ -13,11 +13,11 @@ use lib.Seq.{drop-cons, take-suc-set, length-take-le}
 use borrow.Author.Tests.{le-leb, lt-leb, eq-eqb, ne-eqb, lt-ltb, le-ltb}
 use Rattle.values.specs.Basic.{any, nth, _orElse_}
 use Rattle.values.specs.Meaning.{held, ProperCell}
-use Rattle.values.specs.Read.{Read, got, CellRead}
+use Rattle.forms.specs.Read.{Read, got, CellRead}
 use Rattle.areas.specs.Sorted.{All}
 use Rattle.values.specs.Value.{Value}
-use Rattle.values.specs.declared.read.ReadCell.the-variants.{Got, Broken}
-use Rattle.values.specs.declared.read.ReadCell.{ReadCell}
+use Rattle.forms.specs.declared.read.ReadCell.the-variants.{Got, Broken}
+use Rattle.forms.specs.declared.read.ReadCell.{ReadCell}
 use Rattle.values.specs.declared.value.Cell.{Cell}
 use Rattle.rules.specs.Refusal.{numberOf}
 use Rattle.rules.specs.Rows.{mapFault, badMap, mapped, given, consTo, fill, otherCount, fillFault, fillsFault}

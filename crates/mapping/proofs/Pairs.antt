@@ -13,10 +13,10 @@ use borrow.Author.Tests.{eq-eqb, ne-eqb}
 use Rattle.values.specs.Value.{Value, before}
 use Rattle.values.specs.Meaning.{held, ProperCell}
 use Rattle.areas.specs.Sorted.{All}
-use Rattle.values.specs.Read.{Read, got, broken, valueAt, cellRead, CellRead}
+use Rattle.forms.specs.Read.{Read, got, broken, valueAt, cellRead, CellRead}
 use Rattle.values.specs.declared.value.Cell.{Cell}
-use Rattle.values.specs.declared.read.ReadCell.{ReadCell}
-use Rattle.values.specs.declared.read.ReadCell.the-variants.{Got, Broken}
+use Rattle.forms.specs.declared.read.ReadCell.{ReadCell}
+use Rattle.forms.specs.declared.read.ReadCell.the-variants.{Got, Broken}
 use Rattle.rules.specs.declared.answer.Refusal.the-variants.{KeysNotRising, RowSize}
 use Rattle.rules.specs.State.{Table}
 use Rattle.rules.specs.Request.{Pair}

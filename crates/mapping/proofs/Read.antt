@@ -9,8 +9,8 @@ use lib.ListN.{length, length-map}
 use borrow.Author.Tests.{le-leb, ltb-false}
 use Rattle.values.specs.Bytes.{Bytes}
 use Rattle.values.specs.Value.{Value, normalised}
-use Rattle.values.specs.Read.{Read, got, broken, nameAt, valueAt}
-use Rattle.values.proofs.Reading.{name-read, value-read}
+use Rattle.forms.specs.Read.{Read, got, broken, nameAt, valueAt}
+use Rattle.forms.proofs.Reading.{name-read, value-read}
 use Rattle.rules.specs.declared.profile.Profile.{Profile}
 use Rattle.rules.specs.State.{Column}
 use Rattle.rules.specs.Request.{Pair, Request, Delete, Get, Names, enteredColumn}

@@ -11,10 +11,10 @@ use lib.Dec.{leb, ltb}
 use lib.ListN.{length, getD}
 use borrow.Author.Tests.{leb-false}
 use Rattle.values.specs.Meaning.{ProperCell}
-use Rattle.values.specs.Read.{Read, got, broken, valueAt, CellRead, ProperRead}
+use Rattle.forms.specs.Read.{Read, got, broken, valueAt, CellRead, ProperRead}
 use Rattle.values.specs.Value.{Value}
-use Rattle.values.specs.declared.read.ReadCell.the-variants.{Got}
-use Rattle.values.specs.declared.read.ReadCell.{ReadCell}
+use Rattle.forms.specs.declared.read.ReadCell.the-variants.{Got}
+use Rattle.forms.specs.declared.read.ReadCell.{ReadCell}
 use Rattle.values.specs.declared.value.Cell.{Cell}
 use Rattle.checks.specs.Keys.{onRead, valuesFrom}
 use Rattle.mapping.specs.Got.{isGot, gotOr}

@@ -1,6 +1,6 @@
 -- A reading that did not break, and what it read; n readings in a row as far as they go. Assumes nothing.
 use mathlib.Core.Bool.{Bool, true, false}
-use Rattle.values.specs.Read.{Read, got, broken}
+use Rattle.forms.specs.Read.{Read, got, broken}
 
 module _ {A : Type 0} where
   unfoldable pub isGot : Read A → Bool

@@ -1,5 +1,7 @@
 // Operation 3 (executor.rs: `insert`): the mapping of given values to columns. All rows are mapped before any is written: 24; each row 21, 22, 23.
 use checks::schema_fault::Fault;
+use forms::read;
+use forms::read::ReadCell;
 use laid::catalog;
 use laid::row::Row;
 use records::record;
@@ -7,8 +9,6 @@ use records::record::Walked;
 use rules::answer;
 use rules::answer::Refusal;
 use rules::profile::Profile;
-use values::read;
-use values::read::ReadCell;
 use values::value::Cell;
 use values::value::Value;
 ghost use mathlib.Core.Path.{_≡_};

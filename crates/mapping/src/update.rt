@@ -1,13 +1,13 @@
 // Operation 4: what is wrong with the pairs before any is carried out, and a pair's row.
 use checks::schema_fault::Fault;
+use forms::read;
+use forms::read::ReadCell;
 use laid::catalog;
 use laid::row::Row;
 use records::record;
 use records::record::Walked;
 use rules::answer::Refusal;
 use rules::profile::Profile;
-use values::read;
-use values::read::ReadCell;
 use values::value;
 use values::value::Cell;
 use values::value::Order;

@@ -11,13 +11,13 @@ use Rattle.values.specs.Basic.{isSome, maybe}
 use Rattle.values.specs.Value.{Value, text}
 use Rattle.values.specs.Meaning.{textBytes, held}
 use Rattle.areas.specs.Counted.{countAt}
-use Rattle.values.specs.Read.{Read, got, NameRead, CellRead}
+use Rattle.forms.specs.Read.{Read, got, NameRead, CellRead}
 use Rattle.values.specs.declared.value.Cell.{Cell}
 use Rattle.values.specs.declared.value.Text.{Text}
-use Rattle.values.specs.declared.read.ReadCell.{ReadCell}
-use Rattle.values.specs.declared.read.ReadCell.the-variants.{Got, Broken}
-use Rattle.values.specs.declared.read.ReadName.{ReadName}
-use Rattle.values.specs.declared.read.ReadName.the-variants.{Named, Bad}
+use Rattle.forms.specs.declared.read.ReadCell.{ReadCell}
+use Rattle.forms.specs.declared.read.ReadCell.the-variants.{Got, Broken}
+use Rattle.forms.specs.declared.read.ReadName.{ReadName}
+use Rattle.forms.specs.declared.read.ReadName.the-variants.{Named, Bad}
 use Rattle.rules.specs.declared.profile.Profile.{Profile}
 use Rattle.rules.specs.declared.answer.Answer.{Answer}
 use Rattle.rules.specs.State.{Name, Table, Row, State, isRow, rowWith, rowsOf}

@@ -11,8 +11,8 @@ use lib.ListN.{length, getD}
 use borrow.Author.Tests.{ne-eqb}
 use Rattle.values.specs.Basic.{maybe}
 use Rattle.values.specs.Value.{Value, normalised}
-use Rattle.values.specs.Read.{Read, got, broken, nameAt, valueAt}
-use Rattle.values.proofs.Reading.{value-read}
+use Rattle.forms.specs.Read.{Read, got, broken, nameAt, valueAt}
+use Rattle.forms.proofs.Reading.{value-read}
 use Rattle.rules.specs.declared.profile.Profile.{Profile}
 use Rattle.rules.specs.declared.answer.Answer.{Answer}
 use Rattle.rules.specs.declared.answer.Refusal.the-variants.{RecordBroken}

@@ -11,11 +11,11 @@ use lib.ListN.{length, take}
 use borrow.Author.Tests.{eqb-true}
 use Rattle.values.specs.Basic.{isNone, orDefault, _orElse_}
 use Rattle.values.specs.Meaning.{held}
-use Rattle.values.specs.Read.{got, valueAt}
+use Rattle.forms.specs.Read.{got, valueAt}
 use Rattle.areas.specs.Sorted.{In, All}
 use Rattle.values.specs.Value.{Value, normalised}
 use Rattle.values.specs.declared.value.Cell.{Cell}
-use Rattle.values.proofs.Reading.{value-read}
+use Rattle.forms.proofs.Reading.{value-read}
 use Rattle.rules.specs.Rows.{mapped, given, consTo, fill, fillFault, fullRow}
 use Rattle.rules.specs.Sound.{canonicalDefault, goodColumn, goodTable}
 use Rattle.rules.specs.State.{Column, Table}

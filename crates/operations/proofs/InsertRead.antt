@@ -8,10 +8,10 @@ use native.Mathlib.Omega.{arith}
 use lib.ListN.{length, getD}
 use Rattle.values.specs.Basic.{_orElse_, maybe}
 use Rattle.values.specs.Meaning.{textBytes}
-use Rattle.values.specs.Read.{Read, got, nameAt, nameRead, NameRead}
+use Rattle.forms.specs.Read.{Read, got, nameAt, nameRead, NameRead}
 use Rattle.values.specs.Value.{Value}
-use Rattle.values.specs.declared.read.ReadName.the-variants.{Named, Bad}
-use Rattle.values.specs.declared.read.ReadName.{ReadName}
+use Rattle.forms.specs.declared.read.ReadName.the-variants.{Named, Bad}
+use Rattle.forms.specs.declared.read.ReadName.{ReadName}
 use Rattle.values.specs.declared.value.Text.{Text}
 use Rattle.rules.specs.declared.answer.Answer.{Answer}
 use Rattle.rules.specs.declared.answer.Refusal.the-variants.{UnknownTable, MapColumn}

@@ -8,10 +8,10 @@ use lib.Dec.{eqb}
 use lib.ListN.{length, getD}
 use Rattle.values.specs.Basic.{maybe, _orElse_}
 use Rattle.values.specs.Meaning.{textBytes, Packed}
-use Rattle.values.specs.Read.{Read, got, nameAt, nameRead, NameRead, ProperName}
+use Rattle.forms.specs.Read.{Read, got, nameAt, nameRead, NameRead, ProperName}
 use Rattle.values.specs.Value.{Value}
-use Rattle.values.specs.declared.read.ReadName.the-variants.{Named, Bad}
-use Rattle.values.specs.declared.read.ReadName.{ReadName}
+use Rattle.forms.specs.declared.read.ReadName.the-variants.{Named, Bad}
+use Rattle.forms.specs.declared.read.ReadName.{ReadName}
 use Rattle.values.specs.declared.value.Text.{Text}
 use Rattle.rules.specs.Layout.{parse}
 use Rattle.rules.specs.Refusal.{numberOf}

@@ -11,11 +11,11 @@ use lib.ListN.{length, getD, take}
 use borrow.Author.Tests.{eq-eqb, eqb-true}
 use Rattle.values.specs.Basic.{nth, orDefault}
 use Rattle.values.specs.Meaning.{held, Proper}
-use Rattle.values.specs.Read.{got, CellRead}
+use Rattle.forms.specs.Read.{got, CellRead}
 use Rattle.areas.specs.Sorted.{All}
 use Rattle.values.specs.Value.{Value, same}
-use Rattle.values.specs.declared.read.ReadCell.{ReadCell}
-use Rattle.values.specs.declared.read.ReadCell.the-variants.{Got, Broken}
+use Rattle.forms.specs.declared.read.ReadCell.{ReadCell}
+use Rattle.forms.specs.declared.read.ReadCell.the-variants.{Got, Broken}
 use Rattle.values.specs.declared.value.Cell.{Cell}
 use Rattle.rules.specs.declared.profile.Profile.{Profile}
 use Rattle.rules.specs.declared.answer.Answer.{Answer}

@@ -15,7 +15,7 @@ use Rattle.values.specs.Basic.{isSome, orDefault}
 use Rattle.values.specs.Bytes.{zeros, pad, Bytes}
 use Rattle.values.specs.Value.{Value, null}
 use Rattle.values.specs.Cell.{nameWidth, cellWidth, nameCell, valueCell}
-use Rattle.values.specs.Read.{Read, got, broken, nameAt, valueAt}
+use Rattle.forms.specs.Read.{Read, got, broken, nameAt, valueAt}
 use Rattle.values.specs.Meaning.{textBytes, Packed, held, ProperCell}
 use Rattle.values.specs.declared.value.Text.{Text}
 use Rattle.values.specs.declared.value.Cell.{Cell}

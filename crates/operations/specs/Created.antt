@@ -1,6 +1,6 @@
 -- The column and the table that a create says. Assumes nothing.
 use mathlib.Core.List.{[]}
-use Rattle.values.specs.Read.{Read}
+use Rattle.forms.specs.Read.{Read}
 use Rattle.rules.specs.State.{Column, Table}
 use Rattle.rules.specs.Request.{Request, Create, Drop, Insert, Update, Delete, Get, Lookup, Scan, Names}
 use Rattle.laid.specs.Row.{noColumn}

@@ -1,13 +1,13 @@
 // Operation 1: the schema that a create says, written as a table record, and put into the catalog.
+use forms::read;
+use forms::read::ReadCell;
+use forms::read::ReadName;
 use laid::layout;
 use records::record;
 use rules::answer::Answer;
 use rules::profile::Profile;
 use store::local;
 use values::cell;
-use values::read;
-use values::read::ReadCell;
-use values::read::ReadName;
 ghost use mathlib.Core.Path.{_≡_};
 ghost use mathlib.Core.Bool.{true};
 ghost use Prim.Native.Nat.{_≤_};

@@ -1,5 +1,8 @@
 // A request carried out: each operation reads its operands where they stand in the record, and calls the store.
 use super::create;
+use forms::read;
+use forms::read::ReadCell;
+use forms::read::ReadName;
 use laid::catalog;
 use laid::catalog::Found;
 use laid::layout;
@@ -15,9 +18,6 @@ use rules::profile::Profile;
 use store::local;
 use store::reads;
 use store::rows;
-use values::read;
-use values::read::ReadCell;
-use values::read::ReadName;
 use values::value::Text;
 use walks::walk;
 ghost use mathlib.Core.Path.{_≡_};

@@ -9,7 +9,7 @@ use lib.Dec.{ltb, leb}
 use lib.ListN.{length, getD}
 use borrow.Author.Tests.{le-ltb, lt-ltb, le-leb, lt-leb, ne-eqb}
 use Rattle.values.specs.Value.{Value}
-use Rattle.values.specs.Read.{Read, got, broken, nameAt}
+use Rattle.forms.specs.Read.{Read, got, broken, nameAt}
 use Rattle.rules.specs.Request.{Request}
 use Rattle.rules.specs.declared.profile.Profile.{Profile}
 use Rattle.records.specs.Reading.{andThen, times, flagged, byteAt, byteFrom}

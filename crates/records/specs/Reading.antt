@@ -6,7 +6,7 @@ use mathlib.Core.List.{List, [], _∷_}
 use mathlib.Core.Option.{Option, none, some}
 use lib.Dec.{leb, ltb}
 use lib.ListN.{length, getD}
-use Rattle.values.specs.Read.{Read, got, broken}
+use Rattle.forms.specs.Read.{Read, got, broken}
 
 module _ {A B : Type 0} where
   -- a reading, and then the next one from where it ends

@@ -7,7 +7,7 @@ use mathlib.Core.Option.{Option}
 use lib.Dec.{eqb, ltb}
 use lib.ListN.{length}
 use Rattle.values.specs.Value.{Value}
-use Rattle.values.specs.Read.{Read, got, broken, nameAt, valueAt}
+use Rattle.forms.specs.Read.{Read, got, broken, nameAt, valueAt}
 use Rattle.rules.specs.declared.profile.Profile.{Profile}
 use Rattle.rules.specs.State.{Column}
 use Rattle.rules.specs.Layout.{bit}

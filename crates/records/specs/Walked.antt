@@ -1,5 +1,5 @@
 -- Where a reading ends or breaks, whatever it read. Assumes nothing.
-use Rattle.values.specs.Read.{Read, got, broken}
+use Rattle.forms.specs.Read.{Read, got, broken}
 use Rattle.records.specs.declared.record.Walked.{Walked}
 use Rattle.records.specs.declared.record.Walked.the-variants.{Ends, Breaks}
 

@@ -1,10 +1,10 @@
 // A reader that holds its record and a position. Its methods call the cursor of `values`; the functions below take a plain record and a position, make
 // a reader of them and ask it, so that whoever reads a request has the reader's promise.
-use values::read;
-use values::read::ReadCell;
-use values::read::ReadName;
+use forms::read;
+use forms::read::ReadCell;
+use forms::read::ReadName;
 ghost use mathlib.Core.Path.{_≡_};
-ghost use Rattle.values.specs.Read.{NameRead, CellRead};
+ghost use Rattle.forms.specs.Read.{NameRead, CellRead};
 
 pub struct Reader<'a> {
     pub bytes: &'a [u8],

@@ -1,12 +1,12 @@
 // Whether a record's bytes, from the version byte on, say a request, and else the offset of the first byte that could not be accepted. Nothing is
 // built: the bytes are walked in place.
 use super::reader;
+use forms::read::ReadCell;
+use forms::read::ReadName;
 use rules::profile::Profile;
-use values::read::ReadCell;
-use values::read::ReadName;
 ghost use mathlib.Core.Path.{_≡_};
 ghost use lib.ListN.{getD};
-ghost use Rattle.values.specs.Read.{nameAt, valueAt};
+ghost use Rattle.forms.specs.Read.{nameAt, valueAt};
 ghost use Rattle.rules.specs.Layout.{bit};
 ghost use Rattle.rules.specs.Request.{Delete};
 ghost use Rattle.records.specs.Reading.{times, flagged, byteAt, byteFrom};

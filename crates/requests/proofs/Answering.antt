@@ -9,8 +9,8 @@ use lib.ListN.{length, getD, take, drop, length-append, length-drop}
 use lib.Seq.{drop-nil}
 use borrow.Author.Tests.{ne-eqb}
 use Rattle.values.specs.Value.{Value}
-use Rattle.values.specs.Read.{Read, got, broken, nameAt}
-use Rattle.values.specs.Print.{Front}
+use Rattle.forms.specs.Read.{Read, got, broken, nameAt}
+use Rattle.forms.specs.Print.{Front}
 use Rattle.rules.specs.declared.profile.Profile.{Profile}
 use Rattle.rules.specs.declared.answer.Answer.{Answer}
 use Rattle.rules.specs.declared.answer.Refusal.the-variants.{RecordBroken}

@@ -7,7 +7,7 @@ use native.Mathlib.Omega.{arith}
 use lib.ListN.{length, take, drop, length-append}
 use lib.Seq.{take-at, drop-at, drop-drop}
 use borrow.Rule.Slice.PartMut.{putMid}
-use Rattle.values.specs.Print.{Front}
+use Rattle.forms.specs.Print.{Front}
 
 module _ (p before now : List ℕ) (n : ℕ) (f : Front p before now n) where
   pub front-is : take n now ≡ p

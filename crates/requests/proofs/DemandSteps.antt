@@ -11,7 +11,7 @@ use lib.Seq.{getD-drop, take-append-le, drop-append-le, drop-drop}
 use borrow.Author.Tests.{ltb-false, leb-true, leb-false, le-ltb, ne-eqb}
 use Rattle.values.specs.Bytes.{Bytes}
 use Rattle.areas.specs.Sorted.{All}
-use Rattle.values.specs.Read.{Read, got, broken}
+use Rattle.forms.specs.Read.{Read, got, broken}
 use Rattle.rules.specs.declared.profile.Profile.{Profile}
 use Rattle.rules.specs.declared.answer.Answer.{Answer}
 use Rattle.rules.specs.declared.answer.Refusal.the-variants.{StoreUnsound}

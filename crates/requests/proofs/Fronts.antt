@@ -8,7 +8,7 @@ use native.Mathlib.Numerals.{add-one}
 use lib.ListN.{length, getD, take, drop, set, length-append, length-drop, length-set, take-append-drop}
 use lib.Seq.{length-take-le, take-all, take-at, drop-at, drop-drop, drop-cons, set-at, drop-length}
 use borrow.Rule.Slice.PartMut.{putMid}
-use Rattle.values.specs.Print.{decimal, Front}
+use Rattle.forms.specs.Print.{decimal, Front}
 use Rattle.rules.specs.Refusal.{numberOf}
 use Rattle.rules.specs.Request.{Reply}
 use Rattle.rules.specs.Step.{isAccepted}

@@ -11,8 +11,8 @@ use types.Run.{OneOf}
 use denote.Enum.Declared.{tagOf}
 use mathlib.Core.Logic.{⊎-elim}
 use Rattle.records.proofs.frame.Framed.{the-type}
-use Rattle.values.specs.Print.{Front}
-use Rattle.values.specs.Read.{Read, broken}
+use Rattle.forms.specs.Print.{Front}
+use Rattle.forms.specs.Read.{Read, broken}
 use Rattle.rules.specs.declared.profile.Profile.{Profile}
 use Rattle.rules.specs.declared.answer.Answer.{Answer}
 use Rattle.rules.specs.declared.answer.Refusal.the-variants.{RecordBroken, StoreUnsound}

@@ -9,8 +9,8 @@ use lib.Seq.{drop-drop}
 use borrow.Rule.Slice.PartMut.{putMid}
 use Rattle.values.specs.Basic.{keep, keepIf, maybe}
 use Rattle.values.specs.Value.{Value, null, before, among}
-use Rattle.values.specs.Read.{Read, got, broken}
-use Rattle.values.specs.Print.{Front}
+use Rattle.forms.specs.Read.{Read, got, broken}
+use Rattle.forms.specs.Print.{Front}
 use Rattle.areas.proofs.Sorting.{keep-length}
 use Rattle.rules.specs.declared.profile.Profile.{Profile}
 use Rattle.rules.specs.declared.answer.Refusal.the-variants.{NotIndexed, UnknownTable}

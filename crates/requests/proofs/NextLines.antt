@@ -14,13 +14,13 @@ use Rattle.values.specs.Basic.{isLt, find, keepIf, keep, nth, maybe}
 use Rattle.values.specs.Cell.{nameWidth}
 use Rattle.areas.specs.Counted.{countAt}
 use Rattle.values.specs.Meaning.{textBytes, held, meaning, ProperCell}
-use Rattle.values.specs.Print.{Front}
-use Rattle.values.specs.Read.{Read, got, broken, nameAt}
+use Rattle.forms.specs.Print.{Front}
+use Rattle.forms.specs.Read.{Read, got, broken, nameAt}
 use Rattle.areas.specs.Sorted.{In, Sorted}
 use Rattle.values.specs.Value.{Value, null, text, before, among, cmpValue}
 use Rattle.values.specs.declared.value.Text.{Text}
 use Rattle.values.specs.declared.value.Value.the-variants.{Text as Words}
-use Rattle.values.proofs.Reading.{Told}
+use Rattle.forms.proofs.Reading.{Told}
 use Rattle.values.proofs.Orders.{ordValue, self, opp, lt-at}
 use Rattle.areas.proofs.Sorting.{all-below, find-in, find-none}
 use Rattle.rules.specs.declared.profile.Profile.{Profile}

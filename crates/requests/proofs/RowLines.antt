@@ -7,7 +7,7 @@ use native.Mathlib.Numerals.{add-one}
 use lib.ListN.{length, take, drop, set, length-set, drop-of-length-le}
 use borrow.Rule.Slice.PartMut.{putMid}
 use Rattle.values.specs.Value.{Value}
-use Rattle.values.specs.Print.{printed, printMost, Front}
+use Rattle.forms.specs.Print.{printed, printMost, Front}
 use Rattle.rules.specs.State.{cellAt}
 use Rattle.rules.proofs.Cells.{cell-there}
 use Rattle.rules.proofs.Lists.{below-nth}

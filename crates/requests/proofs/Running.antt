@@ -10,8 +10,8 @@ use lib.Seq.{take-all, take-add, drop-drop, length-take-le, drop-length}
 use borrow.Author.Tests.{eqb-false, ltb-false}
 use borrow.Rule.Slice.PartMut.{putMid}
 use Rattle.values.specs.Bytes.{Bytes}
-use Rattle.values.specs.Read.{Read, got, broken}
-use Rattle.values.specs.Print.{Front}
+use Rattle.forms.specs.Read.{Read, got, broken}
+use Rattle.forms.specs.Print.{Front}
 use Rattle.values.proofs.Packing.{take-bytes, drop-bytes}
 use Rattle.rules.specs.declared.profile.Profile.{Profile}
 use Rattle.rules.specs.State.{State}

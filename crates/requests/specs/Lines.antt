@@ -3,7 +3,7 @@ use Prim.Native.Nat.{ℕ}
 use mathlib.Core.Bool.{cond}
 use mathlib.Core.List.{List, [], _∷_, _++_}
 use Rattle.values.specs.Value.{Value}
-use Rattle.values.specs.Print.{decimal, printed}
+use Rattle.forms.specs.Print.{decimal, printed}
 use Rattle.rules.specs.Refusal.{numberOf}
 use Rattle.rules.specs.Request.{Reply}
 use Rattle.rules.specs.Step.{isAccepted, Written}

@@ -6,7 +6,7 @@ use mathlib.Core.List.{List, [], _∷_, _++_, map}
 use lib.ListN.{length, take, drop}
 use Rattle.values.specs.Basic.{keep}
 use Rattle.values.specs.Value.{Value, text, before}
-use Rattle.values.specs.Print.{Front}
+use Rattle.forms.specs.Print.{Front}
 use Rattle.values.specs.Meaning.{held, ProperCell}
 use Rattle.rules.specs.State.{Table, Row, State, rowsOf}
 use Rattle.rules.specs.Request.{Request, Create, Drop, Insert, Update, Delete, Get, Lookup, Scan, Names}

@@ -5,8 +5,8 @@ use mathlib.Core.Bool.{Bool, true, false, cond}
 use mathlib.Core.List.{List, [], _∷_, _++_}
 use lib.Dec.{eqb, leb}
 use lib.ListN.{length, take, drop}
-use Rattle.values.specs.Read.{Read, broken}
-use Rattle.values.specs.Print.{Front}
+use Rattle.forms.specs.Read.{Read, broken}
+use Rattle.forms.specs.Print.{Front}
 use Rattle.rules.specs.declared.profile.Profile.{Profile}
 use Rattle.rules.specs.declared.answer.Answer.{Answer}
 use Rattle.rules.specs.declared.answer.Refusal.the-variants.{StoreUnsound}

@@ -18,7 +18,7 @@ ghost use mathlib.Core.Path.{_≡_};
 ghost use mathlib.Core.Bool.{true};
 ghost use Prim.Native.Nat.{_≤_};
 ghost use lib.ListN.{length};
-ghost use Rattle.values.specs.Print.{Front};
+ghost use Rattle.forms.specs.Print.{Front};
 ghost use Rattle.rules.specs.Profile.{full};
 ghost use Rattle.rules.specs.Request.{said};
 ghost use Rattle.laid.specs.Store.{Store};

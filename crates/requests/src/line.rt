@@ -1,15 +1,15 @@
 // Single lines: an answer, `ok N` or `no CODE AT GONE`; a row, `row` and its values.
+use forms::print;
 use laid::row;
 use rules::answer;
 use rules::answer::Answer;
 use rules::profile::Profile;
-use values::print;
 use values::value::Cell;
 ghost use mathlib.Core.Path.{_≡_};
 ghost use mathlib.Core.List.{[], _∷_, _++_};
 ghost use Prim.Native.Nat.{_+_, _≤_, _<_};
 ghost use lib.ListN.{length, take};
-ghost use Rattle.values.specs.Print.{decimal, Front};
+ghost use Rattle.forms.specs.Print.{decimal, Front};
 ghost use Rattle.values.specs.Meaning.{held, ProperCell};
 ghost use Rattle.rules.specs.Layout.{parse};
 ghost use Rattle.rules.specs.Request.{said};

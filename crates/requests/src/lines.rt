@@ -1,6 +1,9 @@
 // The lines of a request: one after the other from a place on, made from the store and the record when they are asked for; row lines first, then the
 // answer. Whole lines, as many as fit.
 use super::line;
+use forms::read;
+use forms::read::ReadCell;
+use forms::read::ReadName;
 use laid::catalog;
 use laid::catalog::Found;
 use laid::layout;
@@ -10,9 +13,6 @@ use rules::profile::Profile;
 use store::local;
 use store::reads;
 use values::bytes;
-use values::read;
-use values::read::ReadCell;
-use values::read::ReadName;
 use values::value::Cell;
 use values::value::Text;
 use values::value::Value;
@@ -22,7 +22,7 @@ ghost use mathlib.Core.Bool.{true};
 ghost use Prim.Native.Nat.{_≤_, _<_};
 ghost use lib.ListN.{length};
 ghost use Rattle.values.specs.Value.{null};
-ghost use Rattle.values.specs.Print.{Front};
+ghost use Rattle.forms.specs.Print.{Front};
 ghost use Rattle.values.specs.Meaning.{textBytes, Packed, meaning, Proper, held, ProperCell};
 ghost use Rattle.rules.specs.Layout.{parse};
 ghost use Rattle.rules.specs.Request.{Get, Lookup, Scan, Names, said};

@@ -2,6 +2,8 @@
 use super::schema;
 use changes::change;
 use checks::row_fault;
+use forms::read;
+use forms::read::ReadCell;
 use laid::catalog;
 use laid::catalog::Found;
 use laid::layout;
@@ -12,8 +14,6 @@ use rules::answer::Answer;
 use rules::answer::Refusal;
 use rules::profile::Profile;
 use values::cell;
-use values::read;
-use values::read::ReadCell;
 use values::value::Text;
 use values::value::Value;
 use walks::referrer;

@@ -7,10 +7,6 @@ pub mod Signed
 pub mod Floats
 pub mod Packing
 pub mod Cells
-pub mod Reading
 pub mod TextOrder
 pub mod Compared
 pub mod FloatOrder
-pub mod Digits
-pub mod Fronts
-pub mod Printing

@@ -3,6 +3,4 @@ pub mod Bytes
 pub mod Value
 pub mod Meaning
 pub mod Cell
-pub mod Read
-pub mod Print
 pub mod Area

@@ -1,12 +1,12 @@
 // Reads values from standard input as a record has them and shows of each: how it is printed, the bytes of its cell, how it compares with the
 // value before it, and whether its cell, read back, is it again. What proofs say of every value is seen here at the edges.
+use forms::print;
+use forms::read;
+use forms::read::ReadCell;
 use libc::STDIN_FILENO;
 use libc::STDOUT_FILENO;
 use values::bytes;
 use values::cell;
-use values::print;
-use values::read;
-use values::read::ReadCell;
 use values::value;
 use values::value::Cell;
 use values::value::Order;

@@ -2,14 +2,14 @@
 use super::walk;
 use checks::keys;
 use checks::row_fault;
+use forms::read;
+use forms::read::ReadCell;
 use laid::catalog;
 use laid::catalog::Column;
 use laid::layout;
 use laid::row;
 use rules::profile::Profile;
 use values::cell;
-use values::read;
-use values::read::ReadCell;
 use values::value;
 use values::value::Cell;
 use values::value::Order;

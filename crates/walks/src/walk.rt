@@ -1,14 +1,14 @@
 // A table's rows by place (local.rs: `scan`), and the keys of an indexed value, one after the other.
 use areas::search;
 use checks::row_fault;
+use forms::read;
+use forms::read::ReadCell;
 use laid::catalog::Found;
 use laid::entry;
 use laid::layout;
 use laid::run;
 use rules::profile::Profile;
 use values::cell;
-use values::read;
-use values::read::ReadCell;
 use values::value;
 use values::value::Cell;
 use values::value::Order;

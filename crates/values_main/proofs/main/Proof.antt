@@ -2,7 +2,7 @@
 use Prim.Native.Nat.{_≤_, _-_}
 use borrow.Author.Needs.{needs}
 use native.Mathlib.Omega.{arith}
-use Rattle.values.proofs.Reading.{cell-got}
+use Rattle.forms.proofs.Reading.{cell-got}
 use Rattle.values.specs.Meaning.{Proper}
 use Rattle.values_main.proofs.main.Statement.{statement}
 use Rattle.values_main.proofs.main.Tie as tie
@@ -12,7 +12,7 @@ use Rattle.io.proofs.count.Reads as count-reads
 use Rattle.io.proofs.print_decimal.Reads as print-decimal-reads
 use Rattle.io.proofs.write_all.Reads as write-all-reads
 use Rattle.libc.proofs.read.Reads as read-reads
-use Rattle.values.proofs.read.value_at.Reads as value-at-reads
+use Rattle.forms.proofs.read.value_at.Reads as value-at-reads
 use Rattle.values.proofs.value.compare.Reads as compare-reads
 use Rattle.values_main.proofs.show_cell.Reads as show-cell-reads
 use Rattle.values_main.proofs.show_order.Reads as show-order-reads

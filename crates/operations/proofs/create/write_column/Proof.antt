@@ -6,7 +6,7 @@ use mathlib.Core.List.{List}
 use native.Mathlib.Omega.{arith}
 use lib.ListN.{length, set, length-set}
 use Rattle.values.specs.Meaning.{textBytes, Packed}
-use Rattle.values.specs.Read.{got, nameAt, nameRead, ProperName, cellRead, ProperRead}
+use Rattle.forms.specs.Read.{got, nameAt, nameRead, ProperName, cellRead, ProperRead}
 use Rattle.values.proofs.Parts.{mid-long}
 use Rattle.changes.proofs.Writing.{named-long}
 use Rattle.mapping.proofs.ValuesFrom.{never-broken}

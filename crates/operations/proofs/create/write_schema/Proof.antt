@@ -12,7 +12,7 @@ use Rattle.values.specs.Bytes.{Bytes}
 use Rattle.values.specs.Cell.{nameCell}
 use Rattle.values.specs.Meaning.{textBytes, Packed}
 use Rattle.values.specs.declared.value.Text.{Text}
-use Rattle.values.specs.Read.{got, nameAt, nameRead, ProperName}
+use Rattle.forms.specs.Read.{got, nameAt, nameRead, ProperName}
 use Rattle.values.proofs.Parts.{mid-long}
 use Rattle.rules.specs.Profile.{schemaWidth}
 use Rattle.rules.proofs.Widths.{schema-most}

@@ -1,7 +1,7 @@
 -- `operations::operate::ask` meets its contract. Assumes nothing.
 use mathlib.Core.Path.{refl, _∙_}
 use borrow.Author.Needs.{needs}
-use Rattle.values.specs.Read.{got}
+use Rattle.forms.specs.Read.{got}
 use Rattle.rules.specs.Layout.{parse}
 use Rattle.rules.specs.Request.{Names}
 use Rattle.laid.proofs.Inside.{inside-header}

@@ -8,7 +8,7 @@ use mathlib.Core.Logic.{⊎-elim}
 use borrow.Author.Needs.{needs}
 use lib.ListN.{length}
 use Rattle.values.specs.Meaning.{textBytes, held}
-use Rattle.values.proofs.Reading.{cell-got}
+use Rattle.forms.proofs.Reading.{cell-got}
 use Rattle.rules.specs.Layout.{parse}
 use Rattle.rules.specs.State.{Row, isRow}
 use Rattle.rules.specs.Step.{found}

@@ -1,9 +1,9 @@
 -- `name_at` makes a reader and asks it for the name: the walk is `Held`'s. Assumes nothing.
 use contract.Running.{givenOf, tables, tablesOf}
 use denote.Triple.Table.{entered, cited}
-use Rattle.values.specs.Read.{NameRead}
-use Rattle.values.proofs.read.ReadName as answer
-use Rattle.values.proofs.read.ReadName.Laws as answer′
+use Rattle.forms.specs.Read.{NameRead}
+use Rattle.forms.proofs.read.ReadName as answer
+use Rattle.forms.proofs.read.ReadName.Laws as answer′
 use Rattle.records.proofs.Held.{Making, Asking, Telling, makes-one}
 use Rattle.records.proofs.reader.reader_at.Symbol as make
 use Rattle.records.proofs.reader.reader_at.Met as make-met

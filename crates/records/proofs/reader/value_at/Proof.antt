@@ -1,9 +1,9 @@
 -- `value_at` makes a reader and asks it for the value: the walk is `Held`'s. Assumes nothing.
 use contract.Running.{givenOf, tables, tablesOf}
 use denote.Triple.Table.{entered, cited}
-use Rattle.values.specs.Read.{CellRead}
-use Rattle.values.proofs.read.ReadCell as answer
-use Rattle.values.proofs.read.ReadCell.Laws as answer′
+use Rattle.forms.specs.Read.{CellRead}
+use Rattle.forms.proofs.read.ReadCell as answer
+use Rattle.forms.proofs.read.ReadCell.Laws as answer′
 use Rattle.records.proofs.Held.{Making, Asking, Telling, makes-one}
 use Rattle.records.proofs.reader.reader_at.Symbol as make
 use Rattle.records.proofs.reader.reader_at.Met as make-met

@@ -1,6 +1,6 @@
 -- `records::record::name_end` meets its contract. Assumes nothing.
 use Rattle.records.specs.Walked.{walkedAs}
-use Rattle.values.specs.Read.{nameRead}
+use Rattle.forms.specs.Read.{nameRead}
 use mathlib.Core.Path.{sym, ap, _∙_}
 use Rattle.records.proofs.Walking.{ends, breaks}
 use borrow.Author.Needs.{needs}

@@ -1,7 +1,7 @@
 -- `records::record::some_values` meets its contract: what remains from here ends where the whole does. Assumes nothing.
 use mathlib.Core.Path.{_≡_, refl, _∙_}
 use borrow.Author.Needs.{needs}
-use Rattle.values.specs.Read.{valueAt}
+use Rattle.forms.specs.Read.{valueAt}
 use Rattle.records.specs.Reading.{times}
 use Rattle.records.specs.Walked.{walkedAs}
 use Rattle.records.proofs.Walking.{times-none, times-next, times-stop}

@@ -1,6 +1,6 @@
 -- `records::record::value_end` meets its contract. Assumes nothing.
 use Rattle.records.specs.Walked.{walkedAs}
-use Rattle.values.specs.Read.{cellRead}
+use Rattle.forms.specs.Read.{cellRead}
 use mathlib.Core.Path.{sym, ap, _∙_}
 use Rattle.records.proofs.Walking.{ends, breaks}
 use borrow.Author.Needs.{needs}

@@ -3,7 +3,7 @@ use mathlib.Core.Path.{refl, sym, _∙_, subst}
 use native.Mathlib.Omega.{arith}
 use denote.Ref.{now}
 use borrow.Author.Tests.{not-true, not-false}
-use Rattle.values.specs.Read.{Read}
+use Rattle.forms.specs.Read.{Read}
 use Rattle.rules.specs.Profile.{full}
 use Rattle.rules.specs.Layout.{parse}
 use Rattle.rules.specs.Request.{Request}

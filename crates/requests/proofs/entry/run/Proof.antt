@@ -9,7 +9,7 @@ use lib.Seq.{length-take-le}
 use denote.Ref.{now}
 use borrow.Author.Needs.{needs}
 use borrow.Author.Tests.{not-true, not-false}
-use Rattle.values.specs.Read.{Read, got, broken}
+use Rattle.forms.specs.Read.{Read, got, broken}
 use Rattle.rules.specs.declared.profile.Profile.{Profile}
 use Rattle.rules.specs.Request.{Request}
 use Rattle.rules.specs.Readable.{readable}

@@ -1,6 +1,6 @@
 -- `requests::line::put_last` meets its contract. Assumes nothing.
 use Rattle.requests.specs.Lines.{space, newline}
-use Rattle.values.specs.Print.{decimal}
+use Rattle.forms.specs.Print.{decimal}
 use denote.Ref.{now}
 use mathlib.Core.List.{_∷_}
 use lib.ListN.{take}

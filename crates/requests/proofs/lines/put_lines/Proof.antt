@@ -7,7 +7,7 @@ use native.Mathlib.Omega.{arith}
 use lib.ListN.{length, take, drop, length-take, length-drop}
 use mathlib.Core.Logic.{⊎-elim}
 use borrow.Rule.Slice.PartMut.{putMid, same-len-mid}
-use Rattle.values.specs.Print.{Front}
+use Rattle.forms.specs.Print.{Front}
 use Rattle.requests.specs.Lines.{answerLine}
 use denote.Ref.{now}
 use borrow.Author.Needs.{needs}

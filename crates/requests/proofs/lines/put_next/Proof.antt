@@ -3,7 +3,7 @@ use mathlib.Core.Path.{_≡_, refl, sym, ap, _∙_, subst}
 use native.Mathlib.Omega.{arith}
 use borrow.Author.Needs.{needs}
 use Rattle.values.specs.Meaning.{textBytes, ProperCell}
-use Rattle.values.specs.Read.{got, nameAt, nameRead, ProperName}
+use Rattle.forms.specs.Read.{got, nameAt, nameRead, ProperName}
 use Rattle.requests.proofs.NextLines.{none-lined, nameless-never, silent-said, get-inside, lookup-inside, next-named, next-got, next-looked, next-scanned}
 use Rattle.requests.proofs.lines.put_next.Statement.{statement}
 use Rattle.requests.proofs.lines.put_next.Tie as tie

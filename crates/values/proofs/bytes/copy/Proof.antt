@@ -1,4 +1,4 @@
--- `areas::copy` meets its contract. Assumes nothing.
+-- `values::bytes::copy` meets its contract. Assumes nothing.
 use mathlib.Core.Path.{_≡_, refl, sym, ap, _∙_}
 use mathlib.Core.List.{List, _++_}
 use Prim.Native.Nat.{ℕ, suc, _≤_, _+_, _-_}

@@ -1,4 +1,4 @@
--- `values::get` meets its contract. Assumes nothing.
+-- `values::bytes::get` meets its contract. Assumes nothing.
 use mathlib.Core.Path.{_≡_, refl, sym, ap, _∙_}
 use mathlib.Core.List.{List}
 use Prim.Native.Nat.{ℕ, _+_, _*_, _^_, _≤_, _<_, _-_}

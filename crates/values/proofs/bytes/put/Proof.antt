@@ -1,4 +1,4 @@
--- `values::put` meets its contract. The invariant: the bytes that are written so far, after those of the rest of w, are those of w.
+-- `values::bytes::put` meets its contract. The invariant: the bytes that are written so far, after those of the rest of w, are those of w.
 -- Assumes nothing.
 use mathlib.Core.Path.{_≡_, refl, sym, ap, _∙_}
 use mathlib.Core.List.{List, [], _∷_}

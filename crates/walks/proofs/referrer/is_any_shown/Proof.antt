@@ -1,6 +1,6 @@
 -- `walks::referrer::is_any_shown` meets its contract: what remains from here shows one where the whole does. Assumes nothing.
 use native.Mathlib.Omega.{arith}
-use Rattle.values.proofs.Reading.{cell-got}
+use Rattle.forms.proofs.Reading.{cell-got}
 use Rattle.checks.proofs.KeysRead.{any-end, any-broken, any-passes, any-next}
 use mathlib.Core.Path.{_≡_, refl}
 use borrow.Author.Needs.{needs}

@@ -5,7 +5,7 @@ use mathlib.Core.Path.{_≡_, subst}
 use native.Mathlib.Omega.{arith}
 use borrow.Author.Needs.{needs}
 use Rattle.values.specs.Meaning.{textBytes, meaning, held, ProperCell}
-use Rattle.values.specs.Read.{ProperRead}
+use Rattle.forms.specs.Read.{ProperRead}
 use Rattle.rules.specs.Layout.{parse}
 use Rattle.checks.specs.Keys.{valuesFrom}
 use Rattle.walks.specs.Looked.{nextWith, leastOf, nextOf}
