@@ -1,7 +1,7 @@
 -- What the changes of a row share: what they read first of the table's record, and the place that they write the row's record at. Assumes nothing.
 use mathlib.Core.Path.{_≡_, _∙_}
 use mathlib.Core.Logic.{_⊎_, ⊎-elim}
-use Prim.Native.Nat.{ℕ, _+_, _-_, _*_, _≤_, _<_}
+use Prim.Native.Nat.{ℕ, _+_, _-_, _*_, _^_, _≤_, _<_}
 use native.Mathlib.Omega.{arith}
 use mathlib.Core.List.{List, []}
 use lib.ListN.{length, take, drop, getD}
@@ -17,7 +17,7 @@ use Rattle.rules.specs.Profile.{rowWidth}
 use Rattle.rules.specs.State as S
 use Rattle.rules.specs.State.{Table}
 use Rattle.rules.specs.Layout.{lists, parse}
-use Rattle.rules.proofs.Widths.{store-most}
+use Rattle.rules.proofs.Widths.{store-in-four}
 use Rattle.laid.specs.declared.row.Row.{Row}
 use Rattle.laid.specs.Row.{ProperRow, tableIn}
 use Rattle.laid.specs.Store.{Coded, Inside, LaidStore}
@@ -61,7 +61,7 @@ module _ {p : Profile} {R : ℕ} {s : List ℕ} {t : ℕ} (x : TableOf p R s t) 
 -- ---- the place of a row's record, in a buffer as long as the store
 
 pub record Place (p : Profile) (s₀ s : List ℕ) (from w i : ℕ) : Type 0 where
-  pub small : from + i * w + w ≤ 14869425
+  pub small : from + i * w + w < 2 ^ 32
   pub inside : from + i * w + w ≤ length s
   pub part : length (take (from + i * w + w - (from + i * w)) (drop (from + i * w) s)) ≡ rowWidth p
   pub kept : length s ≡ length s₀
@@ -76,7 +76,7 @@ pub place-of : {p : Profile} {R : ℕ} {s₀ s : List ℕ} {from w i : ℕ} → 
     → length (take (from + i * w + w - (from + i * w)) (drop (from + i * w) s)) ≡ rowWidth p → length s ≡ length s₀ → Place p s₀ s from w i
 place-of {p} {R} {s₀} b h part kept =
     record {
-      small = omega (arith, held-inside p R s₀ b .long, store-most p (b .coded .known) R (b .places));
+      small = omega (arith, held-inside p R s₀ b .long, store-in-four p (b .coded .known) R (b .places));
       inside = h;
       part = part;
       kept = kept;

@@ -21,7 +21,7 @@ ghost use Rattle.laid.specs.Column.{columnOf, ProperColumn, columnAt, nameBefor
 ghost use Rattle.laid.specs.Catalog.{TableBytes, Catalog, foundAt};
 ghost use Rattle.checks.specs.Faults.{kindOfFault, faultOf, keyFault, defaultFault, referenceFault};
 
-// The first rule that a schema breaks, and the column; none where the kind is Accepted.
+// The first rule that is broken, and at which column, row or pair; none where the kind is Accepted.
 pub struct Fault {
     pub kind: Refusal,
     pub at: usize,

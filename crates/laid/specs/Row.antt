@@ -1,13 +1,12 @@
 -- A row in flight: eight cells and how many of them count. Assumes nothing.
 use mathlib.Core.Path.{_≡_}
-use Prim.Native.Nat.{ℕ, _+_, _*_, _≤_, _<_}
+use Prim.Native.Nat.{ℕ, _≤_, _<_}
 use mathlib.Core.Bool.{true, false}
 use mathlib.Core.List.{List, [], map}
 use mathlib.Core.Option.{none, some}
 use lib.ListN.{length, take}
 use Rattle.values.specs.Basic.{nth, orDefault}
 use Rattle.values.specs.Value.{Value, null, same, normalised}
-use Rattle.values.specs.Cell.{nameWidth}
 use Rattle.values.specs.declared.value.Cell.{Cell}
 use Rattle.values.specs.Meaning.{held, ProperCell}
 use Rattle.areas.specs.Sorted.{All}
@@ -27,10 +26,6 @@ pub record ProperRow (r : Row) : Type 0 where
   pub most : r .count ≤ 8
   pub few : r .count ≤ length (r .cells)
   pub proper : All ProperCell (take (r .count) (r .cells))
-
--- where a table's key cell stands in its rows' records
-unfoldable pub keyAt : Profile → Table → ℕ
-keyAt p t = nameWidth + t .key * p .cell
 
 -- the row at place i of a buffer
 abbrev pub noRow : S.Row

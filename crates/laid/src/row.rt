@@ -22,9 +22,12 @@ ghost use Rattle.laid.specs.Store.{Coded, LaidStore};
 ghost use Rattle.laid.specs.Catalog.{placeOf, foundAt};
 ghost use Rattle.laid.specs.Row.{rowIn, KeyColumn, keyed};
 
+// A row in flight has room for so many cells: document 01's columns.
+pub const CELLS_MOST: usize = 8;
+
 // The values of a row on their way into the store.
 pub struct Row {
-    pub cells: [Cell; 8],
+    pub cells: [Cell; CELLS_MOST],
     pub count: usize,
 }
 

@@ -3,6 +3,7 @@ use checks::schema_fault::Fault;
 use forms::read;
 use forms::read::ReadCell;
 use laid::catalog;
+use laid::row;
 use laid::row::Row;
 use records::record;
 use records::record::Walked;
@@ -189,7 +190,7 @@ pub fn fill(table: &[u8], p: Profile, rec: &[u8], m: Map, at: usize, count: usiz
     requires { ⌜ TableBytes p (now table) × (p .columns ≤ 8) × MapIn (now rec) m ⌝ }
     ensures { λ r. ⌜ (filledOf (length ((readTable p (now (table .entry))) .columns)) r ≡ filled (given (mapOf (now (rec .entry)) m) (valuesFrom (now (rec .entry)) count at)) 0 ((readTable p (now (table .entry))) .columns)) × ProperRow r ⌝ }
 {
-    let mut cells = [Cell { value: Value::Null }; 8];
+    let mut cells = [Cell { value: Value::Null }; row::CELLS_MOST];
     let columns = catalog::column_count(table);
     let mut j = 0;
     while j < columns {

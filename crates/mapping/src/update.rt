@@ -3,6 +3,7 @@ use checks::schema_fault::Fault;
 use forms::read;
 use forms::read::ReadCell;
 use laid::catalog;
+use laid::row;
 use laid::row::Row;
 use records::record;
 use records::record::Walked;
@@ -117,7 +118,7 @@ pub fn read_row(rec: &[u8], at: usize, count: usize) -> Row
     requires { ⌜ (count ≤ 8) × (length (valuesFrom (now rec) count at) ≡ count) ⌝ }
     ensures { λ r. ⌜ (cellsOf r ≡ valuesFrom (now (rec .entry)) count at) × ProperRow r × (r .count ≡ count) ⌝ }
 {
-    let mut cells = [Cell { value: Value::Null }; 8];
+    let mut cells = [Cell { value: Value::Null }; row::CELLS_MOST];
     let mut i = 0;
     let mut next = at;
     while i < count {

@@ -1,4 +1,4 @@
-// A reader that holds its record and a position. Its methods call the cursor of `values`; the functions below take a plain record and a position, make
+// A reader that holds its record and a position. Its methods call the cursor of `forms`; the functions below take a plain record and a position, make
 // a reader of them and ask it, so that whoever reads a request has the reader's promise.
 use forms::read;
 use forms::read::ReadCell;
