@@ -6,5 +6,5 @@ use sound::fresh;
 fn main() {
     let mut store = [0u8; 64958];
     fresh::fresh(&mut store);
-    serve::serve(&mut store, STDIN_FILENO, STDOUT_FILENO);
+    serve::serve(&mut store, STDIN_FILENO, STDOUT_FILENO, serve::NONE);
 }

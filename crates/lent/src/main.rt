@@ -23,7 +23,7 @@ fn run(s: &mut [u8], from: usize, to: usize) {
     if records < 0 {
         return;
     }
-    serve::serve(s, records, STDOUT_FILENO);
+    serve::serve(s, records, STDOUT_FILENO, serve::NONE);
     libc::close(records);
     let after = open(to, true);
     if after < 0 {

@@ -7,7 +7,7 @@ use mathlib.Core.List.{List, [], _∷_, _++_, append-assoc}
 use lib.Dec.{eqb, ltb}
 use lib.ListN.{length, take, drop, length-drop, drop-of-length-le}
 use lib.Seq.{take-all, take-add, drop-drop, length-take-le, drop-length}
-use borrow.Author.Tests.{eqb-false, ltb-false}
+use borrow.Author.Tests.{eqb-false, ltb-false, ne-eqb}
 use borrow.Rule.Slice.PartMut.{putMid}
 use Rattle.values.specs.Bytes.{Bytes}
 use Rattle.forms.specs.Read.{Read, got, broken}
@@ -172,6 +172,9 @@ module _ (p : Profile) where
 
 -- ---- one record more
 
+some-left : {q : Read Request} {qs : List (Read Request)} → q ∷ qs ≡ [] → ⊥
+some-left {q} {qs} e = let z : suc (length qs) ≡ 0 = ap length e in absurd (omega arith)
+
 module _ {A : Type 0} (n : ℕ) (xs rest : List A) (x : A) (e : drop n xs ≡ x ∷ rest) where
   take-more : take (n + 1) xs ≡ take n xs ++ (x ∷ [])
   take-more = take-add n 1 xs ∙ ap (λ (l : List A). take n xs ++ take 1 l) e
@@ -215,6 +218,7 @@ pub record Running (p : Profile) (R : ℕ) (input : List ℕ) (ended : Bool) (i 
   pub long : length done ≡ length out
   pub front : Front (take written done) out done written
   pub text : textOf p R (parse p R before) (recordsIn p input ended) i ≡ take written done ++ textOf p R (stateThen p R input ended before count) (recordsLeft p input ended count) lines
+  pub next : recordsLeft p input ended count ≡ [] → lines ≡ cond (eqb count 0) i 0
 
 -- what is passed of the input
 pub record Passed (p : Profile) (input : List ℕ) (ended : Bool) (taken skip count : ℕ) : Type 0 where
@@ -230,7 +234,7 @@ module _ (p : Profile) (R : ℕ) (input : List ℕ) (ended : Bool) (i : ℕ) (be
   pub run-start : Store p R before → Running p R input ended i before before out out 0 0 0 i
   unfolding stateOf
   run-start b =
-      record { store = b; state = refl; kept = refl; inside = omega arith; few = omega arith; rest = refl; fits = omega arith; long = refl; front = record { count = refl; bytes = refl }; text = refl }
+      record { store = b; state = refl; kept = refl; inside = omega arith; few = omega arith; rest = refl; fits = omega arith; long = refl; front = record { count = refl; bytes = refl }; text = refl; next = λ e. refl }
 
   module _ (now done : List ℕ) (taken count written lines : ℕ) (g : Running p R input ended i before now out done taken count written lines) where
     abbrev left : List (Read Request)
@@ -253,7 +257,11 @@ module _ (p : Profile) (R : ℕ) (input : List ℕ) (ended : Bool) (i : ℕ) (be
             rest = g .rest;
             bytes = g .store .bytes ∙ ap (image p R) (g .state);
             text = g .text;
+            next = g .next;
+            fits = omega (arith, g .fits, g .long);
             front = g .front .bytes;
+            kept = g .store;
+            state = g .state;
             full = f;
             waits = w;
             stops = s;
@@ -482,6 +490,7 @@ module _ (p : Profile) (R : ℕ) (input : List ℕ) (ended : Bool) (i : ℕ) (be
                 ∙ ap (λ (b : Bool). take (written + wide) next ++ (cond b [] (textFrom o (put .lines)) ++ textOf p R (applyAll (o .changes) then) (recordsIn p (drop to input) ended) 0)) d
                 ∙ ap (λ (st : State). take (written + wide) next ++ textOf p R st (recordsIn p (drop to input) ended) 0) (sym se)
                 ∙ ap (λ (x : List (Read Request)). take (written + wide) next ++ textOf p R (stateThen p R input ended before (count + 1)) x 0) (sym de);
+            next = λ e. sym (ap (λ (b : Bool). cond b i 0) (ne-eqb (count + 1) 0 (omega arith)));
           }
 
       -- not all of them: it was a read, and the store is as it was
@@ -504,6 +513,7 @@ module _ (p : Profile) (R : ℕ) (input : List ℕ) (ended : Bool) (i : ℕ) (be
                 ∙ ap (λ (b : Bool). take (written + wide) next ++ (cond b [] (textFrom o (put .lines)) ++ textOf p R (applyAll (o .changes) then) (recordsIn p (drop to input) ended) 0)) d
                 ∙ ap (λ (x : List ℕ). take (written + wide) next ++ x) (sym (text-more p R then q (recordsIn p (drop to input) ended) (put .lines)))
                 ∙ ap (λ (l : List (Read Request)). take (written + wide) next ++ textOf p R then l (put .lines)) (sym head);
+            next = λ e. absurd (some-left (sym head ∙ e));
           }
 
       pub stays-full : put .done ≡ false → length next - (written + wide) < rowMost

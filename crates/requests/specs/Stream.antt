@@ -15,6 +15,7 @@ use Rattle.rules.specs.Layout.{image, parse, placesOf}
 use Rattle.rules.specs.Request.{Request, said, no}
 use Rattle.rules.specs.Step.{Outcome, applyAll, refused}
 use Rattle.rules.specs.Sound.{sound}
+use Rattle.laid.specs.Store.{Store}
 use Rattle.records.specs.declared.frame.Framed.{Framed}
 use Rattle.records.specs.declared.frame.Framed.the-variants.{Whole, Skip, More, Cut, Done}
 use Rattle.requests.specs.declared.entry.Halt.the-variants.{Full, Waiting, Stopped, Unsound}
@@ -114,7 +115,11 @@ pub record Runs (p : Profile) (R : ℕ) (input : List ℕ) (ended : Bool) (i : �
   pub rest : recordsIn p (drop (r .taken) input) ended ≡ recordsLeft p input ended (r .count)
   pub bytes : after ≡ image p R (stateThen p R input ended before (r .count))
   pub text : textOf p R (parse p R before) (recordsIn p input ended) i ≡ take (r .written) done ++ textOf p R (stateThen p R input ended before (r .count)) (recordsLeft p input ended (r .count)) (r .lines)
+  pub next : recordsLeft p input ended (r .count) ≡ [] → r .lines ≡ cond (eqb (r .count) 0) i 0
+  pub fits : r .written ≤ length out
   pub front : done ≡ take (r .written) done ++ drop (r .written) out
+  pub kept : Store p R after
+  pub state : parse p R after ≡ stateThen p R input ended before (r .count)
   pub full : r .halt ≡ Full → length out - r .written < rowMost
   pub waits : r .halt ≡ Waiting → (ended ≡ false) × (recordsLeft p input ended (r .count) ≡ [])
   pub stops : r .halt ≡ Stopped → (ended ≡ true) × (recordsLeft p input ended (r .count) ≡ [])

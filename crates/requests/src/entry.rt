@@ -107,8 +107,9 @@ fn answer_record(
     }
 }
 
-// The records of an input one after the other, `from` row lines of the first being written already.
-fn run(
+// The records of an input one after the other over a store that is known to be sound and stays so, `from` row lines of the first being written
+// already: for whoever has tested the store and lent it to nobody else since.
+pub fn run(
     s: &mut [u8],
     p: Profile,
     places: usize,

@@ -1,131 +1,301 @@
-// Moves bytes between two files and the entry for many records. It knows nothing of records: what was read is handed on, what was answered is
-// written out.
-use requests::entry;
+// Records from one file, answered in lines to another over a lent store. Only reading, writing and keeping a log stand outside what is proved of
+// bytes: `flow` has the rest.
+pub mod flow; // what stands between two reads, and one turn: over slices alone
+
+use flow::Flow;
 use requests::entry::Halt;
+use requests::line;
+use rules::answer;
+use rules::answer::Refusal;
+use rules::profile;
+use rules::profile::Profile;
+use sound::fresh;
+use sound::soundness;
 ghost use mathlib.Core.Path.{_≡_};
-ghost use Prim.Native.Nat.{_≤_};
+ghost use mathlib.Core.Bool.{true, false};
+ghost use Prim.Native.Nat.{_≤_, _<_};
 ghost use lib.ListN.{length};
+ghost use Rattle.rules.specs.Profile.{full};
+ghost use Rattle.laid.specs.Store.{Store};
+ghost use Rattle.requests.specs.Lines.{rowMost};
+ghost use Rattle.serve.specs.Course.{recordMost, TakenIn, Rested, Course, Served};
 
-// What stands between two turns: bytes at hand, bytes to pass over, row lines of the next record that are written; whether more bytes are needed,
-// whether the input is at its end, and whether to go on.
-struct Flow {
-    pub have: usize,
-    pub skip: usize,
-    pub lines: usize,
-    pub waiting: bool,
-    pub ended: bool,
-    pub going: bool,
+// Where there is no such file.
+pub const NONE: i32 = -1;
+
+// How it came to an end.
+pub enum End {
+    // every record of the input is answered
+    Whole,
+    // the store is not sound: 38 was said and nothing was read
+    Unsound,
+    // the input could not be read on
+    Unread,
+    // the answers could not be written on
+    Unwritten,
+    // the log could not be kept: what came in last is not carried out
+    Unlogged,
 }
 
-// A number of bytes of a buffer, never more than it has.
-fn within(n: usize, buf: &[u8]) -> usize
-    ensures { λ r. ⌜ r ≤ length (now (buf .entry)) ⌝ }
-{
-    if buf.len() < n { buf.len() } else { n }
+// What was done: records answered and bytes read; and of the input's last bytes how many are no whole record yet, or how many are missing of a
+// record of bad length.
+pub struct Report {
+    pub end: End,
+    pub records: u64,
+    pub bytes: u64,
+    pub torn: usize,
+    pub missing: usize,
 }
 
-// Moves the bytes from `from` on to the front, and returns how many they are.
-fn pass(s: &mut [u8], from: usize) -> usize
-    ensures { λ r. ⌜ (length (now (s .exit)) ≡ length (now (s .entry))) × (r ≤ length (now (s .entry))) ⌝ }
-{
-    let start = within(from, s);
-    let end = s.len() - start;
-    let mut i = 0;
-    while i < end {
-        s[i] = s[start + i];
-        i += 1;
+// Whether what came in was read and kept.
+enum Piece {
+    Kept,
+    Unread,
+    Unlogged,
+}
+
+// What stands when it came in, and how many bytes that were.
+struct Taken {
+    flow: Flow,
+    count: usize,
+    piece: Piece,
+}
+
+// How the bytes at hand were answered.
+enum Pause {
+    Waiting,
+    Stopped,
+    Unwritten,
+}
+
+struct Rest {
+    flow: Flow,
+    records: u64,
+    pause: Pause,
+}
+
+// Writes a part of the text, where there is a file for it.
+fn write_out(to: i32, text: &[u8]) -> bool {
+    if to < 0 {
+        return true;
     }
-    end
+    io::write_all(to, text)
 }
 
-// Reads once where more bytes are needed.
-fn take_in(from: i32, input: &mut [u8], f: Flow) -> Flow
-    ensures { λ r. ⌜ (length (now (input .exit)) ≡ length (now (input .entry))) × (r .have ≤ length (now (input .entry))) ⌝ }
-{
-    let mut next = f;
-    next.have = within(f.have, input);
-    if !f.waiting {
-        return next;
+// Appends what came in to the log, where there is one, and waits until the disk has it. What can't be kept whole is cut off again.
+fn keep_log(log: i32, piece: &[u8]) -> bool {
+    if log < 0 {
+        return true;
     }
-    let have = next.have;
+    let at = libc::lseek(log, 0, libc::SEEK_CUR);
+    if io::write_all(log, piece) {
+        if libc::fdatasync(log) == 0 {
+            return true;
+        }
+    }
+    libc::ftruncate(log, at);
+    false
+}
+
+// Answers all the records at hand, turn by turn.
+fn answer_all(
+    s: &mut [u8],
+    p: Profile,
+    places: usize,
+    input: &mut [u8],
+    out: &mut [u8],
+    to: i32,
+    f: Flow,
+) -> Rest
+    requires { ⌜ Store p places (now s) ⌝ }
+    requires { ⌜ p .columns ≤ 8 ⌝ }
+    requires { ⌜ f .have ≤ length (now input) ⌝ }
+    requires { ⌜ rowMost ≤ length (now out) ⌝ }
+    ensures { λ r. ⌜ Rested p places f (now (s .entry)) (now (s .exit)) (now (input .entry)) (now (input .exit)) r ⌝ }
+{
+    let mut g = f;
+    let mut records = 0;
+    loop {
+        let t = flow::take_turn(s, p, places, input, out, g);
+        let next = t.flow;
+        let ran = t.ran;
+        g = next;
+        records = std::num::wrapping_add_u64(records, ran.count as u64);
+        let n = ran.written;
+        if !write_out(to, &out[0..n]) {
+            return Rest {
+                flow: g,
+                records,
+                pause: Pause::Unwritten,
+            };
+        }
+        let halt = ran.halt;
+        match halt {
+            Halt::Full => {}
+            Halt::Waiting => {
+                return Rest {
+                    flow: g,
+                    records,
+                    pause: Pause::Waiting,
+                };
+            }
+            Halt::Stopped => {
+                return Rest {
+                    flow: g,
+                    records,
+                    pause: Pause::Stopped,
+                };
+            }
+            // the store is known to be sound
+            Halt::Unsound => {
+                return Rest {
+                    flow: g,
+                    records,
+                    pause: Pause::Stopped,
+                };
+            }
+        }
+    }
+}
+
+fn told(end: End, records: u64, bytes: u64, f: Flow) -> Report
+    ensures { λ r. ⌜ (r .end ≡ end) × (r .torn ≡ f .have) × (r .missing ≡ f .skip) ⌝ }
+{
+    Report {
+        end,
+        records,
+        bytes,
+        torn: f.have,
+        missing: f.skip,
+    }
+}
+
+// Reads once behind the bytes at hand, where there is room, and appends what came in to the log.
+fn take_in(from: i32, log: i32, input: &mut [u8], f: Flow) -> Taken
+    requires { ⌜ f .have < length (now input) ⌝ }
+    ensures { λ r. ⌜ TakenIn f (now (input .entry)) (now (input .exit)) r ⌝ }
+{
+    let have = f.have;
     let got = libc::read(from, &mut input[have..]);
     let n = io::count(got, &input[have..]);
-    if n == 0 {
-        next.ended = true;
+    let flow = flow::arrived(f, n, input);
+    if got < 0 {
+        return Taken {
+            flow,
+            count: n,
+            piece: Piece::Unread,
+        };
     }
-    next.have = have + n;
-    next
+    let end = have + n;
+    if !keep_log(log, &input[have..end]) {
+        return Taken {
+            flow,
+            count: n,
+            piece: Piece::Unlogged,
+        };
+    }
+    Taken {
+        flow,
+        count: n,
+        piece: Piece::Kept,
+    }
 }
 
-// Passes over the bytes of a record of bad length.
-fn pass_over(input: &mut [u8], f: Flow) -> Flow
-    requires { ⌜ f .have ≤ length (now input) ⌝ }
-    ensures { λ r. ⌜ (length (now (input .exit)) ≡ length (now (input .entry))) × (r .have ≤ length (now (input .entry))) ⌝ }
+// Reads the input on, piece by piece, and answers what is at hand. `last` says that nothing follows the input's end, so that a record cut off there is
+// answered. Nothing says that a file ends, so the reads are counted down from a number that no run uses up.
+fn run(
+    s: &mut [u8],
+    p: Profile,
+    places: usize,
+    input: &mut [u8],
+    out: &mut [u8],
+    from: i32,
+    to: i32,
+    log: i32,
+    last: bool,
+) -> Report
+    requires { ⌜ Store p places (now s) ⌝ }
+    requires { ⌜ p .columns ≤ 8 ⌝ }
+    requires { ⌜ recordMost ≤ length (now input) ⌝ }
+    requires { ⌜ rowMost ≤ length (now out) ⌝ }
+    ensures { λ r. ⌜ Course p places (now (s .entry)) (now (s .exit)) last r ⌝ }
 {
-    let mut next = f;
-    let have = f.have;
-    if have < f.skip {
-        next.skip = f.skip - have;
-        next.have = 0;
-        return next;
+    let mut f = flow::start();
+    let mut records = 0;
+    let mut bytes = 0;
+    let mut reads = u64::MAX;
+    while 0 < reads {
+        let taken = take_in(from, log, input, f);
+        let piece = taken.piece;
+        match piece {
+            Piece::Unread => {
+                return told(End::Unread, records, bytes, f);
+            }
+            Piece::Unlogged => {
+                return told(End::Unlogged, records, bytes, f);
+            }
+            Piece::Kept => {}
+        }
+        let next = taken.flow;
+        if next.ended && !last {
+            return told(End::Whole, records, bytes, f);
+        }
+        bytes = std::num::wrapping_add_u64(bytes, taken.count as u64);
+        let rest = answer_all(s, p, places, input, out, to, next);
+        let after = rest.flow;
+        records = std::num::wrapping_add_u64(records, rest.records);
+        let pause = rest.pause;
+        match pause {
+            Pause::Waiting => {}
+            Pause::Stopped => {
+                return told(End::Whole, records, bytes, after);
+            }
+            Pause::Unwritten => {
+                return told(End::Unwritten, records, bytes, after);
+            }
+        }
+        f = after;
+        reads -= 1;
     }
-    next.skip = 0;
-    next.have = pass(&mut input[0..have], f.skip);
-    next
+    told(End::Unread, records, bytes, f)
 }
 
-// Hands the bytes at hand on, writes out what was answered, and keeps what is left.
-fn hand_on(s: &mut [u8], input: &mut [u8], out: &mut [u8], to: i32, f: Flow) -> Flow
-    requires { ⌜ f .have ≤ length (now input) ⌝ }
-    ensures { λ r. ⌜ length (now (input .exit)) ≡ length (now (input .entry)) ⌝ }
+// Tests the store once, and runs the input over it; 38 where it is not sound.
+fn over(s: &mut [u8], from: i32, to: i32, log: i32, last: bool) -> Report
+    ensures { λ r. ⌜ Served full (now (s .entry)) (now (s .exit)) last r ⌝ }
 {
-    let have = f.have;
-    let r = entry::many(s, &input[0..have], f.ended, f.lines, out);
-    let n = within(r.written, out);
-    let mut next = f;
-    next.going = io::write_all(to, &out[0..n]);
-    next.have = pass(&mut input[0..have], r.taken);
-    // bytes that are still to be passed over have not been handed on
-    if f.skip == 0 {
-        next.skip = r.skip;
-    }
-    next.lines = r.lines;
-    let halt = r.halt;
-    match halt {
-        Halt::Full => {
-            next.waiting = false;
-        }
-        Halt::Waiting => {
-            next.waiting = true;
-        }
-        Halt::Stopped => {
-            next.going = false;
-        }
-        Halt::Unsound => {
-            next.going = false;
-        }
-    }
-    next
-}
-
-// Answers the records that come from one file in lines to the other, over a lent store. Nothing says that a file ends, so the turns are counted down
-// from a number that no run uses up.
-pub fn serve(s: &mut [u8], from: i32, to: i32) {
     let mut input = io::large_buffer();
     let mut out = io::large_buffer();
-    let mut f = Flow {
-        have: 0,
-        skip: 0,
-        lines: 0,
-        waiting: true,
-        ended: false,
-        going: true,
-    };
-    let mut turns = u64::MAX;
-    while f.going && 0 < turns {
-        f = take_in(from, &mut input, f);
-        f = pass_over(&mut input, f);
-        f = hand_on(s, &mut input, &mut out, to, f);
-        turns -= 1;
+    if !soundness::is_sound(s) {
+        let n = line::put_answer(&mut out, answer::refused(Refusal::StoreUnsound, 0));
+        write_out(to, &out[0..n]);
+        return told(End::Unsound, 0, 0, flow::start());
     }
+    let places = fresh::places_of(s, profile::FULL);
+    run(
+        s,
+        profile::FULL,
+        places,
+        &mut input,
+        &mut out,
+        from,
+        to,
+        log,
+        last,
+    )
+}
+
+// Answers the records that come from one file in lines to the other. Each piece of the input is appended to the log, if there is one, and on the disk
+// before a record in it is carried out and answered.
+pub fn serve(s: &mut [u8], from: i32, to: i32, log: i32) -> Report
+    ensures { λ r. ⌜ Served full (now (s .entry)) (now (s .exit)) true r ⌝ }
+{
+    over(s, from, to, log, true)
+}
+
+// Carries the records of a log out again, without a word. Where it ends in the middle of a record, the report says so.
+pub fn replay(s: &mut [u8], log: i32) -> Report
+    ensures { λ r. ⌜ Served full (now (s .entry)) (now (s .exit)) false r ⌝ }
+{
+    over(s, log, NONE, NONE, false)
 }

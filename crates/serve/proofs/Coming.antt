@@ -1,0 +1,126 @@
+-- How a run over an input in pieces goes on: nothing done, something read, one after the other. Assumes nothing.
+use Prim.Native.Nat.{ℕ, zero, _+_, _-_, _≤_}
+use native.Mathlib.Omega.{arith}
+use mathlib.Core.Path.{_≡_, refl, sym, _∙_, ap}
+use mathlib.Core.Bool.{Bool, true, false}
+use mathlib.Core.List.{List, [], _++_, append-assoc, append-nil}
+use lib.ListN.{length, take, drop, length-drop}
+use lib.Seq.{drop-drop, take-add, take-all}
+use Rattle.forms.specs.Read.{Read}
+use Rattle.rules.specs.declared.profile.Profile.{Profile}
+use Rattle.rules.specs.State.{State}
+use Rattle.rules.specs.Layout.{image, parse}
+use Rattle.rules.specs.Request.{Request}
+use Rattle.laid.specs.Store.{Store}
+use Rattle.requests.specs.Stream.{recordsIn, textOf, stateOf}
+use Rattle.serve.specs.Course.{Standing, left, textLeft, Came}
+use Rattle.serve.proofs.Texts.{state-then}
+
+module _ (p : Profile) (R : ℕ) where
+  no-state : (st : State) (ws : List (Read Request)) → stateOf p R st (take 0 ws) ≡ st
+  unfolding stateOf
+  no-state st ws = refl
+
+  pub came-nowhere : (ended : Bool) (x : Standing) → Store p R (x .store) → Came p R ended x [] x []
+  came-nowhere ended x s =
+      record {
+        store = s;
+        count = 0;
+        few = λ more e. omega arith;
+        others = λ more e. refl;
+        state = λ more e. sym (no-state (parse p R (x .store)) (left p x more));
+        text = λ more e. refl;
+      }
+
+  -- a piece came in behind the bytes at hand
+  pub came-read : (x : Standing) (piece : List ℕ) → Store p R (x .store)
+      → Came p R false x piece (record { store = x .store; hand = x .hand ++ piece; skip = x .skip; lines = x .lines }) []
+  came-read x piece s =
+      let same : (more : List ℕ) → left p (record { store = x .store; hand = x .hand ++ piece; skip = x .skip; lines = x .lines }) more ≡ left p x (piece ++ more) =
+      λ more. ap (λ (l : List ℕ). recordsIn p (drop (x .skip) l) true) (append-assoc (x .hand) piece more)
+      in
+      record {
+        store = s;
+        count = 0;
+        few = λ more e. omega arith;
+        others = λ more e. same more;
+        state = λ more e. sym (no-state (parse p R (x .store)) (left p x (piece ++ more)));
+        text = λ more e. sym (ap (λ (ws : List (Read Request)). textOf p R (parse p R (x .store)) ws (x .lines)) (same more));
+      }
+
+  -- one after the other; behind the input's end nothing more is read
+  module _ (e₁ e₂ : Bool) (x y z : Standing) (a b v w : List ℕ) (h : Came p R e₁ x a y v) (k : Came p R e₂ y b z w)
+      (ends : e₁ ≡ true → (e₂ ≡ true) × (b ≡ [])) where
+    module _ (more : List ℕ) (e : e₂ ≡ true → more ≡ []) where
+      abbrev rest : List ℕ
+      rest = b ++ more
+
+      none : e₁ ≡ true → rest ≡ []
+      none t = ap (λ (l : List ℕ). l ++ more) (ends t .1) ∙ e (ends t .0)
+
+      abbrev all : List (Read Request)
+      all = left p x (a ++ rest)
+
+      whole : left p x ((a ++ b) ++ more) ≡ all
+      whole = ap (left p x) (append-assoc a b more)
+
+      then-others : left p z more ≡ drop (h .count + k .count) (left p x ((a ++ b) ++ more))
+      then-others =
+          k .others more e
+          ∙ ap (drop (k .count)) (h .others rest none)
+          ∙ drop-drop (k .count) (h .count) all
+          ∙ ap (drop (h .count + k .count)) (sym whole)
+
+      then-few : h .count + k .count ≤ length (left p x ((a ++ b) ++ more))
+      then-few =
+          let l : k .count ≤ length all - h .count = rw (← length-drop (h .count) all, ← h .others rest none) (k .few more e) in
+          rw whole (omega (arith, l, h .few rest none))
+
+      then-state : parse p R (z .store) ≡ stateOf p R (parse p R (x .store)) (take (h .count + k .count) (left p x ((a ++ b) ++ more)))
+      then-state =
+          k .state more e
+          ∙ ap (λ (st : State). stateOf p R st (take (k .count) (left p y rest))) (h .state rest none)
+          ∙ ap (λ (ws : List (Read Request)). stateOf p R (stateOf p R (parse p R (x .store)) (take (h .count) all)) (take (k .count) ws)) (h .others rest none)
+          ∙ sym (state-then p R (parse p R (x .store)) (take (h .count) all) (take (k .count) (drop (h .count) all)))
+          ∙ ap (stateOf p R (parse p R (x .store))) (sym (take-add (h .count) (k .count) all))
+          ∙ ap (λ (ws : List (Read Request)). stateOf p R (parse p R (x .store)) (take (h .count + k .count) ws)) (sym whole)
+
+      then-text : textLeft p R x ((a ++ b) ++ more) ≡ (v ++ w) ++ textLeft p R z more
+      then-text =
+          ap (λ (ws : List (Read Request)). textOf p R (parse p R (x .store)) ws (x .lines)) whole
+          ∙ h .text rest none
+          ∙ ap (λ (l : List ℕ). v ++ l) (k .text more e)
+          ∙ sym (append-assoc v w (textLeft p R z more))
+
+    pub came-then : Came p R e₂ x (a ++ b) z (v ++ w)
+    came-then = record { store = k .store; count = h .count + k .count; few = then-few; others = then-others; state = then-state; text = then-text }
+
+  -- ---- to the end of the input: all of its text is written, and every record of it is carried out
+
+  module _ (x y : Standing) (read wrote : List ℕ) (h : Came p R true x read y wrote) (none : left p y [] ≡ []) where
+    unextended : left p x (read ++ []) ≡ left p x read
+    unextended = ap (left p x) (append-nil read)
+
+    all-done : take (h .count) (left p x (read ++ [])) ≡ left p x read
+    all-done =
+        let d : drop (h .count) (left p x (read ++ [])) ≡ [] = sym (h .others [] (λ e. refl)) ∙ none in
+        let l : length (left p x (read ++ [])) - h .count ≡ 0 = sym (length-drop (h .count) (left p x (read ++ []))) ∙ ap length d in
+        take-all (h .count) (left p x (read ++ [])) (omega arith) ∙ unextended
+
+    no-text : (st : State) (i : ℕ) → textOf p R st [] i ≡ []
+    unfolding textOf
+    no-text st i = refl
+
+    pub all-text : textLeft p R x read ≡ wrote
+    all-text =
+        ap (λ (ws : List (Read Request)). textOf p R (parse p R (x .store)) ws (x .lines)) (sym unextended)
+        ∙ h .text [] (λ e. refl)
+        ∙ ap (λ (ws : List (Read Request)). wrote ++ textOf p R (parse p R (y .store)) ws (y .lines)) none
+        ∙ ap (λ (l : List ℕ). wrote ++ l) (no-text (parse p R (y .store)) (y .lines))
+        ∙ append-nil wrote
+
+    pub all-state : parse p R (y .store) ≡ stateOf p R (parse p R (x .store)) (left p x read)
+    all-state = h .state [] (λ e. refl) ∙ ap (stateOf p R (parse p R (x .store))) all-done
+
+    pub all-bytes : y .store ≡ image p R (stateOf p R (parse p R (x .store)) (left p x read))
+    all-bytes = h .store .bytes ∙ ap (image p R) all-state

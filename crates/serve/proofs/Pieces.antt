@@ -1,0 +1,186 @@
+-- The records of an input that comes in pieces: the first ones of a piece are the first ones of the whole. Assumes nothing.
+use Prim.Native.Nat.{ℕ, zero, suc, _+_, _-_, _≤_, _<_, min}
+use native.Mathlib.Omega.{arith}
+use mathlib.Core.Path.{_≡_, refl, sym, _∙_, ap, subst}
+use mathlib.Core.Bool.{Bool, true, false, cond, true≢false}
+use mathlib.Core.List.{List, [], _∷_, _++_, append-nil}
+use lib.Dec.{leb, ltb}
+use lib.ListN.{length, take, drop, length-append, length-drop, drop-of-length-le}
+use lib.Seq.{take-append-le, drop-append-le, drop-append-add, drop-drop, drop-length, take-all, drop-nil}
+use borrow.Author.Tests.{ltb-false, leb-true, leb-false, le-ltb, ne-eqb}
+use Rattle.forms.specs.Read.{Read, broken}
+use Rattle.rules.specs.declared.profile.Profile.{Profile}
+use Rattle.rules.specs.Request.{Request}
+use Rattle.records.specs.declared.frame.Framed.{Framed}
+use Rattle.records.specs.declared.frame.Framed.the-variants.{Whole, Skip, More, Cut, Done}
+use Rattle.records.specs.Record.{requestOf}
+use Rattle.records.specs.Frame.{framed, lengthOf, leastLength, mostLength, short}
+use Rattle.requests.specs.Stream.{inFrame, someRecords, recordsIn, inBytes, bytesOf}
+use Rattle.requests.proofs.Running.{Moves, moves, records-by}
+
+-- ---- a frame of the first piece that holds a record is the frame of the whole
+
+-- g is the frame of the whole, the other one that of the first piece
+abbrev Same : Framed → Framed → Type 0
+Same g (Whole k) = Whole k ≡ g
+Same g (Skip k) = Skip k ≡ g
+Same g More = Unit {0}
+Same g Cut = ⊥
+Same g Done = ⊥
+
+abbrev tested : Bool → Bool → Bool → ℕ → Bool → Framed
+tested low high less k ended = cond low (Skip k) (cond high (Skip k) (cond less (short ended) (Whole k)))
+
+same-tested : (low high less less′ : Bool) (k : ℕ) → (less ≡ false → less′ ≡ false) → Same (tested low high less′ k true) (tested low high less k false)
+same-tested true high less less′ k h = refl
+same-tested false true less less′ k h = refl
+same-tested false false true less′ k h = tt
+same-tested false false false true k h = absurd (true≢false (h refl))
+same-tested false false false false k h = refl
+
+framed-two : (s : List ℕ) (ended : Bool) → 2 ≤ length s
+    → tested (ltb (lengthOf s) leastLength) (ltb mostLength (lengthOf s)) (ltb (length s) (2 + lengthOf s)) (2 + lengthOf s) ended ≡ framed s ended
+unfolding framed
+framed-two s ended h = simp (ne-eqb (length s) 0 (omega arith), ne-eqb (length s) 1 (omega arith))
+
+same-frame : (a more : List ℕ) → Same (framed (a ++ more) true) (framed a false)
+unfolding framed
+same-frame [] more = tt
+same-frame (x ∷ []) more = tt
+same-frame (x ∷ y ∷ a) more =
+    let s : List ℕ = x ∷ y ∷ a in
+    let k : ℕ = lengthOf s in
+    subst (λ (g : Framed). Same g (framed s false)) (framed-two (s ++ more) true (omega arith))
+    (subst (Same (tested (ltb k leastLength) (ltb mostLength k) (ltb (length (s ++ more)) (2 + k)) (2 + k) true)) (framed-two s false (omega arith))
+    (same-tested (ltb k leastLength) (ltb mostLength k) (ltb (length s) (2 + k)) (ltb (length (s ++ more)) (2 + k)) (2 + k)
+    (λ e. le-ltb (length (s ++ more)) (2 + k) (omega (arith, ltb-false (length s) (2 + k) e, length-append s more)))))
+
+-- ---- so the first n records of a piece are the first n of the whole, and the others stand behind the bytes that they took
+
+bytes-first : (s : List ℕ) (ended : Bool) (f : Framed) → f ≡ framed s ended → (n : ℕ) → bytesOf (suc n) s ended ≡ inBytes s f (λ k. bytesOf n (drop k s) ended)
+unfolding bytesOf
+bytes-first s ended f e n = ap (λ (x : Framed). inBytes s x (λ k. bytesOf n (drop k s) ended)) (sym e)
+
+bytes-zero : (s : List ℕ) (ended : Bool) → bytesOf 0 s ended ≡ 0
+unfolding bytesOf
+bytes-zero s ended = refl
+
+module _ (p : Profile) where
+  pub no-records : (ended : Bool) → recordsIn p [] ended ≡ []
+  unfolding recordsIn someRecords
+  no-records ended = refl
+
+  module _ (more : List ℕ) where
+    abbrev Split : ℕ → List ℕ → Type 0
+    Split n a = recordsIn p (a ++ more) true ≡ take n (recordsIn p a false) ++ recordsIn p (drop (bytesOf n a false) (a ++ more)) true
+
+    split-none : (a : List ℕ) → Split 0 a
+    split-none a = ap (λ (k : ℕ). recordsIn p (drop k (a ++ more)) true) (sym (bytes-zero a false))
+
+    same-record : (a : List ℕ) (k : ℕ) → 4 ≤ k → k ≤ length a → take (k - 2) (drop 2 (a ++ more)) ≡ take (k - 2) (drop 2 a)
+    same-record a k l m =
+        ap (take (k - 2)) (drop-append-le 2 a more (omega (arith, l, m)))
+        ∙ take-append-le (k - 2) (drop 2 a) more (omega (arith, l, m, length-drop 2 a))
+
+    -- behind a first record of k bytes
+    abbrev Behind : ℕ → ℕ → List ℕ → Type 0
+    Behind n k a =
+        recordsIn p (drop k (a ++ more)) true
+        ≡ take n (recordsIn p (drop k a) false) ++ recordsIn p (drop (k + bytesOf n (drop k a) false) (a ++ more)) true
+
+    behind-some : (n k : ℕ) (a : List ℕ) → k ≤ length a → Split n (drop k a) → Behind n k a
+    behind-some n k a l h =
+        let b : ℕ = bytesOf n (drop k a) false in
+        let d : drop k (a ++ more) ≡ drop k a ++ more = drop-append-le k a more l in
+        ap (λ (s : List ℕ). recordsIn p s true) d
+        ∙ h
+        ∙ ap (λ (s : List ℕ). take n (recordsIn p (drop k a) false) ++ recordsIn p s true) (ap (drop b) (sym d) ∙ drop-drop b k (a ++ more))
+
+    behind-none : (n k : ℕ) (a : List ℕ) → length a < k → n ≤ length (recordsIn p (drop k a) false) → Behind n k a
+    behind-none n k a l few =
+        let e : drop k a ≡ [] = drop-of-length-le a {i = k} (omega arith) in
+        let r : recordsIn p (drop k a) false ≡ [] = ap (λ (s : List ℕ). recordsIn p s false) e ∙ no-records false in
+        let z : n ≡ 0 = let q : length (recordsIn p (drop k a) false) ≡ 0 = ap length r in omega (arith, few) in
+        let t : take n (recordsIn p (drop k a) false) ≡ [] = ap (λ (j : ℕ). take j (recordsIn p (drop k a) false)) z in
+        let b : k + bytesOf n (drop k a) false ≡ k = let y : bytesOf n (drop k a) false ≡ 0 = ap (λ (j : ℕ). bytesOf j (drop k a) false) z ∙ bytes-zero (drop k a) false in omega arith in
+        sym (ap (λ (ws : List (Read Request)). ws ++ recordsIn p (drop (k + bytesOf n (drop k a) false) (a ++ more)) true) t
+        ∙ ap (λ (j : ℕ). recordsIn p (drop j (a ++ more)) true) b)
+
+    behind : (n k : ℕ) (a : List ℕ) → n ≤ length (recordsIn p (drop k a) false) → Split n (drop k a) → Behind n k a
+    behind n k a few h = go (leb k (length a)) refl
+      where
+        go : (b : Bool) → leb k (length a) ≡ b → Behind n k a
+        go true e = behind-some n k a (leb-true k (length a) e) h
+        go false e = behind-none n k a (leb-false k (length a) e) few
+
+    -- a record q of k bytes comes first, in the piece as in the whole
+    first-then : (n k : ℕ) (a : List ℕ) (q : Read Request) → bytesOf (suc n) a false ≡ k + bytesOf n (drop k a) false
+        → recordsIn p a false ≡ q ∷ recordsIn p (drop k a) false
+        → recordsIn p (a ++ more) true ≡ q ∷ recordsIn p (drop k (a ++ more)) true
+        → Behind n k a
+        → Split (suc n) a
+    first-then n k a q b r e h =
+        e
+        ∙ ap (λ (ws : List (Read Request)). q ∷ ws) h
+        ∙ ap (λ (j : ℕ). q ∷ (take n (recordsIn p (drop k a) false) ++ recordsIn p (drop j (a ++ more)) true)) (sym b)
+        ∙ ap (λ (ws : List (Read Request)). take (suc n) ws ++ recordsIn p (drop (bytesOf (suc n) a false) (a ++ more)) true) (sym r)
+
+    few-behind : (n : ℕ) (q : Read Request) (ws vs : List (Read Request)) → ws ≡ q ∷ vs → suc n ≤ length ws → n ≤ length vs
+    few-behind n q ws vs e l = let z : length ws ≡ suc (length vs) = ap length e in omega arith
+
+    none-few : (n : ℕ) (ws : List (Read Request)) → ws ≡ [] → suc n ≤ length ws → ⊥
+    none-few n ws e l = let z : length ws ≡ 0 = ap length e in absurd (omega arith)
+
+    split-by : (n : ℕ) (a : List ℕ) (f : Framed) → f ≡ framed a false → Same (framed (a ++ more) true) f → Moves (length a) f → suc n ≤ length (recordsIn p a false)
+        → ((k : ℕ) → n ≤ length (recordsIn p (drop k a) false) → Split n (drop k a))
+        → Split (suc n) a
+    split-by n a (Whole k) e g m few ih =
+        let q : Read Request = requestOf (take (k - 2) (drop 2 a)) p in
+        let r : recordsIn p a false ≡ q ∷ recordsIn p (drop k a) false = records-by p a false (Whole k) e in
+        let less = few-behind n q (recordsIn p a false) (recordsIn p (drop k a) false) r few in
+        first-then n k a q (bytes-first a false (Whole k) e n) r
+        (records-by p (a ++ more) true (Whole k) g
+        ∙ ap (λ (s : List ℕ). requestOf s p ∷ recordsIn p (drop k (a ++ more)) true) (same-record a k (m .0) (m .1)))
+        (behind n k a less (ih k less))
+    split-by n a (Skip k) e g m few ih =
+        let r : recordsIn p a false ≡ broken 0 ∷ recordsIn p (drop k a) false = records-by p a false (Skip k) e in
+        let less = few-behind n (broken 0) (recordsIn p a false) (recordsIn p (drop k a) false) r few in
+        first-then n k a (broken 0) (bytes-first a false (Skip k) e n) r (records-by p (a ++ more) true (Skip k) g) (behind n k a less (ih k less))
+    split-by n a More e g m few ih = absurd (none-few n (recordsIn p a false) (records-by p a false More e) few)
+    split-by n a Cut e g m few ih = absurd g
+    split-by n a Done e g m few ih = absurd g
+
+    pub split : (n : ℕ) (a : List ℕ) → n ≤ length (recordsIn p a false) → Split n a
+    split zero a few = split-none a
+    split (suc n) a few = split-by n a (framed a false) refl (same-frame a more) (moves a false) few (λ k less. split n (drop k a) less)
+
+  -- ---- the whole of what is at hand
+
+  module _ (a more : List ℕ) where
+    abbrev held : List (Read Request)
+    held = recordsIn p a false
+
+    pub all-held : recordsIn p (a ++ more) true ≡ held ++ recordsIn p (drop (bytesOf (length held) a false) (a ++ more)) true
+    all-held =
+        split more (length held) a (omega arith)
+        ∙ ap (λ (ws : List (Read Request)). ws ++ recordsIn p (drop (bytesOf (length held) a false) (a ++ more)) true) (take-all (length held) held (omega arith))
+
+-- ---- what is left behind n bytes: those passed over first, then the rest of the piece
+
+pub passed-on : (b : ℕ) (a more : List ℕ) → drop (b - length a) (drop (min b (length a)) a ++ more) ≡ drop b (a ++ more)
+passed-on b a more = go (leb b (length a)) refl
+  where
+    go : (x : Bool) → leb b (length a) ≡ x → drop (b - length a) (drop (min b (length a)) a ++ more) ≡ drop b (a ++ more)
+    go true e =
+        let l = leb-true b (length a) e in
+        let m : min b (length a) ≡ b = omega arith in
+        let z : b - length a ≡ 0 = omega arith in
+        ap (λ (k : ℕ). drop k (drop (min b (length a)) a ++ more)) z ∙ ap (λ (k : ℕ). drop k a ++ more) m ∙ sym (drop-append-le b a more l)
+    go false e =
+        let l = leb-false b (length a) e in
+        let m : min b (length a) ≡ length a = omega arith in
+        let w : length a + (b - length a) ≡ b = omega arith in
+        ap (λ (k : ℕ). drop (b - length a) (drop k a ++ more)) m
+        ∙ ap (λ (s : List ℕ). drop (b - length a) (s ++ more)) (drop-length a)
+        ∙ sym (drop-append-add a more (b - length a))
+        ∙ ap (λ (k : ℕ). drop k (a ++ more)) w

@@ -1,0 +1,156 @@
+-- A run over an input, read by read. Assumes nothing.
+use Prim.Native.Nat.{ℕ, zero, suc, _+_, _-_, _≤_, _<_}
+use native.Mathlib.Omega.{arith}
+use mathlib.Core.Path.{_≡_, refl, sym, _∙_, ap, subst}
+use mathlib.Core.Bool.{Bool, true, false, true≢false}
+use mathlib.Core.List.{List, [], _∷_, _++_, append-assoc, append-nil}
+use lib.Dec.{eqb}
+use lib.ListN.{length, take, drop}
+use lib.Seq.{length-take-le, take-append-add, take-append-le}
+use borrow.Rule.Slice.PartMut.{putMid}
+use Rattle.rules.specs.declared.profile.Profile.{Profile}
+use Rattle.rules.specs.Profile.{full}
+use Rattle.rules.specs.Layout.{parse, placesOf}
+use Rattle.rules.specs.Sound.{sound}
+use Rattle.rules.proofs.Valid.{valid-is, valid-laid}
+use Rattle.rules.proofs.Whole.{sound-image}
+use Rattle.laid.specs.Store.{Store}
+use Rattle.serve.specs.declared.flow.Flow.{Flow}
+use Rattle.serve.specs.declared.End.{End}
+use Rattle.serve.specs.declared.End.the-variants.{Whole, Unsound}
+use Rattle.serve.specs.declared.Pause.the-variants.{Waiting, Stopped}
+use Rattle.serve.specs.declared.Piece.{Piece}
+use Rattle.serve.specs.declared.Taken.{Taken}
+use Rattle.serve.specs.declared.Rest.{Rest}
+use Rattle.serve.specs.declared.Report.{Report}
+use Rattle.serve.specs.Flow.{started, hand, Arrived}
+use Rattle.serve.specs.Course.{Standing, start, standing, left, recordMost, Came, TakenIn, Rested, Course, Served}
+use Rattle.serve.proofs.Hand.{none-taken}
+use Rattle.serve.proofs.Coming.{came-nowhere, came-read, came-then}
+
+-- ---- what came in stands behind the bytes at hand
+
+pub taken-in : (f g : Flow) (n k : ℕ) (input part : List ℕ) (x : Piece) → f .have ≤ length input → n ≤ length part → g .have ≤ length (putMid (f .have) k input part) → Arrived f n g
+    → TakenIn f input (putMid (f .have) k input part) (record { flow = g; count = n; piece = x })
+taken-in f g n k input part x l m h a =
+    let e : g .have ≡ length (hand f input) + n = omega (arith, a .have, length-take-le (f .have) input l) in
+    record {
+      piece = take n part;
+      hand =
+          ap (λ (j : ℕ). take j (putMid (f .have) k input part)) e
+          ∙ take-append-add (hand f input) (part ++ drop k (drop (f .have) input)) n
+          ∙ ap (λ (s : List ℕ). hand f input ++ s) (take-append-le n part (drop k (drop (f .have) input)) m);
+      have = h;
+      skip = a .skip;
+      lines = a .lines;
+      ended = a .ended ∙ sym (none-taken n part m);
+    }
+
+-- ---- how far the run came: it waits for more
+
+pub record Serving (p : Profile) (R : ℕ) (before now input : List ℕ) (f : Flow) : Type 0 where
+  pub read : List ℕ
+  pub wrote : List ℕ
+  pub came : Came p R false (start before) read (standing now f input) wrote
+  pub waits : f .ended ≡ false
+  pub have : f .have < recordMost
+
+module _ (p : Profile) (R : ℕ) (before : List ℕ) where
+  pub serving-start : (input : List ℕ) → Store p R before → Serving p R before before input started
+  serving-start input s = record { read = []; wrote = []; came = came-nowhere p R false (start before) s; waits = refl; have = omega arith }
+
+  module _ (now input : List ℕ) (f : Flow) (h : Serving p R before now input f) (room : recordMost ≤ length input) where
+    -- ---- it ends between two reads
+
+    pub course-waiting : (last : Bool) (r : Report) → r .torn ≡ f .have → r .missing ≡ f .skip → (r .end ≡ Whole → last ≡ false) → Course p R before now last r
+    course-waiting last r t m w =
+        record {
+          read = h .read;
+          wrote = h .wrote;
+          ended = false;
+          end = standing now f input;
+          came = h .came;
+          store = refl;
+          torn = t ∙ sym (length-take-le (f .have) input (omega (arith, h .have, room)));
+          missing = m;
+          done = λ e l. absurd (true≢false (sym l ∙ w e));
+        }
+
+    -- ---- something came in, and what is at hand is answered
+
+    module _ (mid : List ℕ) (t : Taken) (took : TakenIn f input mid t) (after kept : List ℕ) (r : Rest) (rest : Rested p R (t .flow) now after mid kept r) where
+      abbrev piece : List ℕ
+      piece = took .piece
+
+      abbrev next : Standing
+      next = standing after (r .flow) kept
+
+      -- what stood, and the piece
+      abbrev grown : Standing
+      grown = record { store = now; hand = hand f input ++ piece; skip = f .skip; lines = f .lines }
+
+      came-in : Came p R (t .flow .ended) grown [] next (rest .wrote)
+      came-in =
+          subst (λ (s : List ℕ). Came p R (t .flow .ended) (record { store = now; hand = s; skip = f .skip; lines = f .lines }) [] next (rest .wrote)) (took .hand)
+          (subst (λ (j : ℕ). Came p R (t .flow .ended) (record { store = now; hand = hand (t .flow) mid; skip = j; lines = f .lines }) [] next (rest .wrote)) (took .skip)
+          (subst (λ (j : ℕ). Came p R (t .flow .ended) (record { store = now; hand = hand (t .flow) mid; skip = t .flow .skip; lines = j }) [] next (rest .wrote)) (took .lines)
+          (rest .came)))
+
+      came-next : Came p R (t .flow .ended) (start before) ((h .read ++ piece) ++ []) next ((h .wrote ++ []) ++ rest .wrote)
+      came-next =
+          let never : false ≡ true → ⊥ = λ e. true≢false (sym e) in
+          came-then p R false (t .flow .ended) (start before) grown next (h .read ++ piece) [] (h .wrote ++ []) (rest .wrote)
+          (came-then p R false false (start before) (standing now f input) grown (h .read) piece (h .wrote) [] (h .came) (came-read p R (standing now f input) piece (h .came .store)) (λ e. absurd (never e)))
+          came-in
+          (λ e. absurd (never e))
+
+      pub serving-next : r .pause ≡ Waiting → Serving p R before after kept (r .flow)
+      serving-next w =
+          let e = rest .waits w .0 in
+          record {
+            read = (h .read ++ piece) ++ [];
+            wrote = (h .wrote ++ []) ++ rest .wrote;
+            came = subst (λ (b : Bool). Came p R b (start before) ((h .read ++ piece) ++ []) next ((h .wrote ++ []) ++ rest .wrote)) e came-next;
+            waits = rest .ended ∙ e;
+            have = rest .waits w .1;
+          }
+
+      pub course-after : (last : Bool) (x : Report) → x .torn ≡ r .flow .have → x .missing ≡ r .flow .skip → (x .end ≡ Whole → r .pause ≡ Stopped) → Course p R before after last x
+      course-after last x torn missing w =
+          record {
+            read = (h .read ++ piece) ++ [];
+            wrote = (h .wrote ++ []) ++ rest .wrote;
+            ended = t .flow .ended;
+            end = next;
+            came = came-next;
+            store = refl;
+            torn = torn ∙ sym (length-take-le (r .flow .have) kept (rest .have));
+            missing = missing;
+            done = λ e l. rest .stops (w e);
+          }
+
+-- ---- the store stays sound
+
+pub store-sound : (p : Profile) (R : ℕ) (s : List ℕ) → Store p R s → sound p s ≡ true
+store-sound p R s b =
+    subst (λ (l : List ℕ). sound p l ≡ true) (sym (b .bytes))
+    (sound-image p (b .coded .known) R (b .places) (parse p R s) (valid-laid (valid-is p R (parse p R s) (b .valid))) (b .valid) (b .some))
+
+-- ---- tested once
+
+module _ (before : List ℕ) (b : Bool) (e : b ≡ sound full before) where
+  pub served-unsound : (last : Bool) (r : Report) → b ≡ false → r .end ≡ Unsound → Served full before before last r
+  served-unsound last r f u =
+      record {
+        unsound = λ h. (refl, u);
+        ran = λ h. absurd (true≢false (sym h ∙ sym e ∙ f));
+        sound = λ h. h;
+      }
+
+  pub served-sound : (R : ℕ) → R ≡ placesOf full before → (after : List ℕ) (last : Bool) (r : Report) → b ≡ true → Course full R before after last r → Served full before after last r
+  served-sound R q after last r t c =
+      record {
+        unsound = λ h. absurd (true≢false (sym t ∙ e ∙ h));
+        ran = λ h. subst (λ (n : ℕ). Course full n before after last r) q c;
+        sound = λ h. subst (λ (l : List ℕ). sound full l ≡ true) (c .store) (store-sound full R (c .end .store) (c .came .store));
+      }

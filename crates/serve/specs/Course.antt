@@ -1,0 +1,99 @@
+-- An input that comes in pieces, as the rules see it: what stands between two reads, what was read and written since, and the records that are
+-- left. Assumes nothing.
+use Prim.Native.Nat.{ℕ, _+_, _≤_, _<_}
+use mathlib.Core.Path.{_≡_}
+use mathlib.Core.Bool.{Bool, true, false}
+use mathlib.Core.List.{List, [], _++_}
+use lib.ListN.{length, take, drop}
+use Rattle.values.specs.Basic.{isNil}
+use Rattle.forms.specs.Read.{Read}
+use Rattle.rules.specs.declared.profile.Profile.{Profile}
+use Rattle.rules.specs.State.{State}
+use Rattle.rules.specs.Layout.{image, parse, placesOf}
+use Rattle.rules.specs.Request.{Request}
+use Rattle.rules.specs.Sound.{sound}
+use Rattle.laid.specs.Store.{Store}
+use Rattle.records.specs.Frame.{mostLength}
+use Rattle.requests.specs.Stream.{recordsIn, textOf, stateOf}
+use Rattle.serve.specs.declared.flow.Flow.{Flow}
+use Rattle.serve.specs.declared.End.the-variants.{Whole, Unsound}
+use Rattle.serve.specs.declared.Pause.the-variants.{Waiting, Stopped}
+use Rattle.serve.specs.declared.Rest.{Rest}
+use Rattle.serve.specs.declared.Taken.{Taken}
+use Rattle.serve.specs.declared.Report.{Report}
+use Rattle.serve.specs.Flow.{hand}
+
+-- the store's bytes, the bytes at hand, how many bytes are passed over before the next record, and how many of its row lines are written
+pub record Standing : Type 0 where
+  pub store : List ℕ
+  pub hand : List ℕ
+  pub skip : ℕ
+  pub lines : ℕ
+
+-- before anything was read; and as the code has it
+abbrev pub start : List ℕ → Standing
+start s = record { store = s; hand = []; skip = 0; lines = 0 }
+
+abbrev pub standing : List ℕ → Flow → List ℕ → Standing
+standing s f input = record { store = s; hand = hand f input; skip = f .skip; lines = f .lines }
+
+-- the longest record, its two length bytes included
+abbrev pub recordMost : ℕ
+recordMost = 2 + mostLength
+
+-- the records that are left where `more` is still to be read, and their text
+abbrev pub left : Profile → Standing → List ℕ → List (Read Request)
+left p x more = recordsIn p (drop (x .skip) (x .hand ++ more)) true
+
+abbrev pub textLeft : Profile → ℕ → Standing → List ℕ → List ℕ
+textLeft p R x more = textOf p R (parse p R (x .store)) (left p x more) (x .lines)
+
+-- from x, `read` was read and `wrote` written, and y stands: whatever more follows (nothing where the input has ended), `count` records are carried
+-- out, the others are left, and the text is what was written and what is left
+pub record Came (p : Profile) (R : ℕ) (ended : Bool) (x : Standing) (read : List ℕ) (y : Standing) (wrote : List ℕ) : Type 0 where
+  pub store : Store p R (y .store)
+  pub count : ℕ
+  pub few : (more : List ℕ) → (ended ≡ true → more ≡ []) → count ≤ length (left p x (read ++ more))
+  pub others : (more : List ℕ) → (ended ≡ true → more ≡ []) → left p y more ≡ drop count (left p x (read ++ more))
+  pub state : (more : List ℕ) → (ended ≡ true → more ≡ [])
+      → parse p R (y .store) ≡ stateOf p R (parse p R (x .store)) (take count (left p x (read ++ more)))
+  pub text : (more : List ℕ) → (ended ≡ true → more ≡ []) → textLeft p R x (read ++ more) ≡ wrote ++ textLeft p R y more
+
+-- ---- a piece came in behind the bytes at hand; none: the input has ended
+
+pub record TakenIn (f : Flow) (before after : List ℕ) (r : Taken) : Type 0 where
+  pub piece : List ℕ
+  pub hand : hand (r .flow) after ≡ hand f before ++ piece
+  pub have : r .flow .have ≤ length after
+  pub skip : r .flow .skip ≡ f .skip
+  pub lines : r .flow .lines ≡ f .lines
+  pub ended : r .flow .ended ≡ isNil piece
+
+-- ---- the records at hand answered, turn by turn
+
+pub record Rested (p : Profile) (R : ℕ) (f : Flow) (before after input kept : List ℕ) (r : Rest) : Type 0 where
+  pub wrote : List ℕ
+  pub came : Came p R (f .ended) (standing before f input) [] (standing after (r .flow) kept) wrote
+  pub ended : r .flow .ended ≡ f .ended
+  pub have : r .flow .have ≤ length kept
+  pub waits : r .pause ≡ Waiting → (f .ended ≡ false) × (r .flow .have < recordMost)
+  pub stops : r .pause ≡ Stopped → (f .ended ≡ true) × (left p (standing after (r .flow) kept) [] ≡ [])
+
+-- ---- a run over a sound store: some input was read, some text written; where all is done, nothing is left
+
+pub record Course (p : Profile) (R : ℕ) (before after : List ℕ) (last : Bool) (r : Report) : Type 0 where
+  pub read : List ℕ
+  pub wrote : List ℕ
+  pub ended : Bool
+  pub end : Standing
+  pub came : Came p R ended (start before) read end wrote
+  pub store : end .store ≡ after
+  pub torn : r .torn ≡ length (end .hand)
+  pub missing : r .missing ≡ end .skip
+  pub done : r .end ≡ Whole → last ≡ true → (ended ≡ true) × (left p end [] ≡ [])
+
+-- not sound, the store stays as it was; sound, it is the rules' state of the first records of what was read, and stays sound
+pub record Served (p : Profile) (before after : List ℕ) (last : Bool) (r : Report) : Type 0 where
+  pub unsound : sound p before ≡ false → (after ≡ before) × (r .end ≡ Unsound)
+  pub ran : sound p before ≡ true → Course p (placesOf p before) before after last r
+  pub sound : sound p before ≡ true → sound p after ≡ true
