@@ -19,6 +19,7 @@ use Rattle.rules.specs.Schema.{first, Fault, at, columnFault, columnsFau
 use Rattle.rules.specs.Rows.{fillFault, fillsFault, risingFault, sizeFault, cellFault, cellsFault, rowFault}
 use Rattle.rules.specs.Step.{createFault}
 use Rattle.rules.specs.Sound.{every}
+use Rattle.rules.specs.Refused.{createNumbers, oneOf}
 use Rattle.rules.proofs.Tests.{every-at, and-left, and-right}
 use Rattle.rules.proofs.Lists.{any-is}
 
@@ -82,9 +83,6 @@ number-injective j k e = sym (named-number j) ∙ ap named e ∙ named-number k
 
 -- ---- tests whose numbers are among some
 
-abbrev pub oneOf : List ℕ → Refusal → Bool
-oneOf ns k = any (eqb (numberOf k)) ns
-
 abbrev pub Only : List ℕ → Option Refusal → Type 0
 Only ns o = (k : Refusal) → o ≡ some k → oneOf ns k ≡ true
 
@@ -137,9 +135,6 @@ pub eitherAt : (ns : List ℕ) (a b : Fault) → OnlyAt ns a → OnlyAt ns b →
 eitherAt ns a b = orElse-some (λ x. oneOf ns (x .0) ≡ true) a b
 
 -- ---- a schema: 3; 4 to 18; 19
-
-abbrev pub createNumbers : List ℕ
-createNumbers = 3 ∷ 4 ∷ 5 ∷ 6 ∷ 7 ∷ 8 ∷ 9 ∷ 10 ∷ 11 ∷ 12 ∷ 13 ∷ 14 ∷ 15 ∷ 16 ∷ 17 ∷ 18 ∷ 19 ∷ []
 
 columns-only : (ts : List Table) (t : Table) (i : ℕ) (cs : List Column) → OnlyAt createNumbers (columnsFault ts t i cs)
 unfolding columnsFault columnFault every

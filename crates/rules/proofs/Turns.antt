@@ -10,6 +10,7 @@ use Rattle.values.specs.Value.{Value}
 use Rattle.rules.specs.State.{State}
 use Rattle.rules.specs.Request.{Reply, ok}
 use Rattle.rules.specs.Step.{Change, applyAll, Outcome, did, isAccepted, atPlace, numbered, onward, inTurn}
+use Rattle.rules.specs.Stops.{Turn, outcomeAt, stopAt}
 use Rattle.rules.proofs.Removed.{applyAll-append}
 use Rattle.rules.proofs.Tests.{by-cond}
 
@@ -40,27 +41,6 @@ is-did o n e f = parts (o .lines) (o .reply) e f
     parts ls r e f = rw (e, f)
 
 module _ {A : Type 0} (f : State → A → Outcome) where
-  -- items that are accepted one after the other, with their changes, and then an item's turn
-  pub record Turn (s : State) (i : ℕ) (xs : List A) : Type 0 where
-    pub before : List A
-    pub item : A
-    pub behind : List A
-    pub earlier : List Change
-    pub split : xs ≡ before ++ (item ∷ behind)
-    pub through : inTurn f s i before ≡ did earlier (i + length before)
-
-  -- what is done with the item, and what a run that stops there answers
-  abbrev pub outcomeAt : {s : State} {i : ℕ} {xs : List A} → Turn s i xs → Outcome
-  outcomeAt {s} t = f (applyAll (t .earlier) s) (t .item)
-
-  abbrev pub stopAt : {s : State} {i : ℕ} {xs : List A} → Turn s i xs → Outcome
-  stopAt {s} {i} t =
-      record {
-        changes = t .earlier ++ (f (applyAll (t .earlier) s) (t .item)) .changes;
-        lines = [];
-        reply = atPlace (i + length (t .before)) ((f (applyAll (t .earlier) s) (t .item)) .reply);
-      }
-
   pub in-turn-nil : (s : State) (i : ℕ) → inTurn f s i [] ≡ did [] i
   unfolding inTurn
   in-turn-nil s i = refl
@@ -131,14 +111,14 @@ module _ {A : Type 0} (f : State → A → Outcome) where
 
   -- one was refused: the items before it were accepted, and their changes stay
   pub stopped : (s : State) (i : ℕ) (xs : List A) → isAccepted ((inTurn f s i xs) .reply) ≡ false
-      → (t : Turn s i xs) × (isAccepted ((outcomeAt t) .reply) ≡ false) × (inTurn f s i xs ≡ stopAt t)
+      → (t : Turn f s i xs) × (isAccepted ((outcomeAt f t) .reply) ≡ false) × (inTurn f s i xs ≡ stopAt f t)
   unfolding applyAll
   stopped s i [] h = absurd (true≢false (sym (ap (λ (o : Outcome). isAccepted (o .reply)) (in-turn-nil s i)) ∙ h))
   stopped s i (x ∷ xs) h = go (isAccepted ((f s x) .reply)) refl (λ t. stopped t (suc i) xs)
     where
       go : (b : Bool) → isAccepted ((f s x) .reply) ≡ b
-          → ((u : State) → isAccepted ((inTurn f u (suc i) xs) .reply) ≡ false → (t : Turn u (suc i) xs) × (isAccepted ((outcomeAt t) .reply) ≡ false) × (inTurn f u (suc i) xs ≡ stopAt t))
-          → (t : Turn s i (x ∷ xs)) × (isAccepted ((outcomeAt t) .reply) ≡ false) × (inTurn f s i (x ∷ xs) ≡ stopAt t)
+          → ((u : State) → isAccepted ((inTurn f u (suc i) xs) .reply) ≡ false → (t : Turn f u (suc i) xs) × (isAccepted ((outcomeAt f t) .reply) ≡ false) × (inTurn f u (suc i) xs ≡ stopAt f t))
+          → (t : Turn f s i (x ∷ xs)) × (isAccepted ((outcomeAt f t) .reply) ≡ false) × (inTurn f s i (x ∷ xs) ≡ stopAt f t)
       go false e r = (
         record { before = []; item = x; behind = xs; earlier = []; split = refl; through = in-turn-nil s i ∙ ap (did []) (sym (add-zero i)) },
         e,
@@ -149,7 +129,7 @@ module _ {A : Type 0} (f : State → A → Outcome) where
           let cs : List Change = (f s x) .changes in
           let u : State = applyAll cs s in
           let q = r u (sym (ap (λ (o : Outcome). isAccepted (o .reply)) (in-turn-yes s i x xs e)) ∙ h) in
-          let t : Turn u (suc i) xs = q .0 in
+          let t : Turn f u (suc i) xs = q .0 in
           let n : suc i + length (t .before) ≡ i + suc (length (t .before)) = omega arith in (
             record {
               before = x ∷ t .before;
@@ -232,5 +212,5 @@ module _ {A : Type 0} (f : State → A → Outcome) where
           ∙ ap (λ (o : Outcome). record { changes = cs ++ o .changes; lines = []; reply = o .reply }) (r u (suc i) ds (all-through u (suc i) before yes) h′)
           ∙ behind-one s i cs ds item (length before))
 
-  pub stops : {s : State} {i : ℕ} {xs : List A} (t : Turn s i xs) → isAccepted ((outcomeAt t) .reply) ≡ false → inTurn f s i xs ≡ stopAt t
+  pub stops : {s : State} {i : ℕ} {xs : List A} (t : Turn f s i xs) → isAccepted ((outcomeAt f t) .reply) ≡ false → inTurn f s i xs ≡ stopAt f t
   stops {s} {i} {xs} t h = ap (inTurn f s i) (t .split) ∙ stops-from (t .before) (t .item) (t .behind) s i (t .earlier) (t .through) h

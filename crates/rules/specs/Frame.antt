@@ -1,6 +1,10 @@
--- The table that a request names: what belongs to any other is left as it was (document 01, demand 3). Assumes nothing.
+-- The table that a request names, and what it is to leave any other as it was (document 01, demand 3). Assumes nothing.
+use mathlib.Core.Path.{_≡_}
+use mathlib.Core.List.{List}
 use mathlib.Core.Option.{Option, none, some}
-use Rattle.rules.specs.State.{Name}
+use Rattle.values.specs.Basic.{keep}
+use Rattle.rules.specs.State.{Name, sameName, State, tableNamed, rowsOf}
+use Rattle.rules.specs.Index.{Entry, indexOf}
 use Rattle.rules.specs.Request.{Request, Create, Drop, Insert, Update, Delete, Get, Lookup, Scan, Names}
 
 -- a list names none
@@ -14,3 +18,13 @@ names (Get n ks) = some n
 names (Lookup n i vs) = some n
 names (Scan n) = some n
 names Names = none
+
+-- the index entries of a table
+abbrev pub entriesNamed : State → Name → List Entry
+entriesNamed s n = keep (λ (e : Entry). sameName (e .table) n) (indexOf (s .tables) (s .rows))
+
+-- the table n in a store and in a later one
+pub record Untouched (n : Name) (s z : State) : Type 0 where
+  pub schema : tableNamed (z .tables) n ≡ tableNamed (s .tables) n
+  pub rows : rowsOf (z .rows) n ≡ rowsOf (s .rows) n
+  pub entries : entriesNamed z n ≡ entriesNamed s n
