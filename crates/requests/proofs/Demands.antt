@@ -17,10 +17,11 @@ use Rattle.rules.specs.Layout.{image, parse, placesOf}
 use Rattle.rules.specs.Request.{Request, Reply, said, no}
 use Rattle.rules.specs.Step.{Outcome, applyAll, isAccepted, step, after, run, runAfter}
 use Rattle.rules.specs.Sound.{every, sound}
+use Rattle.rules.specs.Demand.{Demand3}
 use Rattle.rules.proofs.Valid.{empty-valid}
 use Rattle.rules.proofs.Widths.{full-known}
 use Rattle.rules.proofs.Whole.{sound-is, image-parse}
-use Rattle.rules.proofs.Demand.{Demand3, demand-of}
+use Rattle.rules.proofs.Demand.{demand-of}
 use Rattle.laid.specs.Store.{Store, Stored}
 use Rattle.requests.specs.declared.entry.Ran.{Ran}
 use Rattle.mapping.specs.Got.{isGot}
@@ -36,9 +37,9 @@ stateAfter R input ended k = stateOf full R empty (take k (recordsIn full input 
 
 -- ---- 1. the store is always right
 
--- after any number of records of any bytes: the index in the store's bytes is the one rebuilt from schemas and rows, unique columns are unique,
--- references name stored rows, and the next request leaves the tables that it does not name as they were
-pub demand-3 : (R : ℕ) → R ≤ placesMost → (input : List ℕ) → Bytes input → (ended : Bool) (k : ℕ) → Demand3 full R (stateAfter R input ended k)
+-- after any number of records of any bytes: the index in the store's bytes is, byte for byte, the one rebuilt from schemas and rows, unique columns
+-- are unique, references name stored rows
+pub demand-3 : (R : ℕ) → R ≤ placesMost → (input : List ℕ) → Bytes input → (ended : Bool) (k : ℕ) → Demand3 full R (image full R (stateAfter R input ended k))
 demand-3 R most input h ended k =
     demand-of full R (stateAfter R input ended k)
     (records-valid full R empty k (recordsIn full input ended) (input-readable full input ended h) (empty-valid full R))

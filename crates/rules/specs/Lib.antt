@@ -10,6 +10,7 @@ pub mod Step
 pub mod Sound
 pub mod Readable
 pub mod Frame
+pub mod Demand
 pub mod Refused
 pub mod Stops
 pub mod Ascii

@@ -43,7 +43,8 @@ module _ {A : Type 0} (f : State → A → Outcome) where
 -- ---- an insert: the rows before AT, each accepted, stay
 
 -- o is what an insert answers that was refused at a row
-pub record InsertStops (p : Profile) (R : ℕ) (s : State) (n : Name) (m : Option (List ℕ)) (rows : List (List Value)) (o : Outcome) : Type 0 where
+pub record InsertStops (p : Profile) (R : ℕ) (s : State) (n : Name) (m : Option (List ℕ)) (rows : List (List Value)) (o : Outcome)
+    : Type 0 where
   pub table : Table
   pub found : tableNamed (s .tables) n ≡ some table
   pub filled : fillsFault table m 0 rows ≡ none
@@ -56,13 +57,17 @@ pub record InsertStops (p : Profile) (R : ℕ) (s : State) (n : Name) (m : Optio
 
 -- why a pair is refused, and what of it stays
 pub data PairStops (p : Profile) (R : ℕ) (t : Table) (s : State) (q : Pair) (o : Outcome) : Type 0 where
-  keeps-key : (k : Refusal) → same (q .old) (keyOf t (q .row)) ≡ true → rowFault p R s t true (q .row) ≡ some k → o ≡ refused (no k 0) → PairStops p R t s q o
-  old-referenced : (x : Carried) → same (q .old) (keyOf t (q .row)) ≡ false → rowReferenced (s .rows) (t .name) (q .old ∷ []) (s .tables) ≡ some x
+  keeps-key : (k : Refusal) → same (q .old) (keyOf t (q .row)) ≡ true → rowFault p R s t true (q .row) ≡ some k
+      → o ≡ refused (no k 0) → PairStops p R t s q o
+  old-referenced : (x : Carried) → same (q .old) (keyOf t (q .row)) ≡ false
+      → rowReferenced (s .rows) (t .name) (q .old ∷ []) (s .tables) ≡ some x
       → o ≡ refused (noCarrying RowReferenced 0 x) → PairStops p R t s q o
-  no-old : (k : Refusal) → same (q .old) (keyOf t (q .row)) ≡ false → rowReferenced (s .rows) (t .name) (q .old ∷ []) (s .tables) ≡ none
-      → rowWith (s .rows) (t .name) (q .old) ≡ none → rowFault p R s t false (q .row) ≡ some k → o ≡ refused (no k 0) → PairStops p R t s q o
-  old-gone : (k : Refusal) (r : Row) → same (q .old) (keyOf t (q .row)) ≡ false → rowReferenced (s .rows) (t .name) (q .old ∷ []) (s .tables) ≡ none
-      → rowWith (s .rows) (t .name) (q .old) ≡ some r → rowFault p R (apply (removed r) s) t false (q .row) ≡ some k
+  no-old : (k : Refusal) → same (q .old) (keyOf t (q .row)) ≡ false
+      → rowReferenced (s .rows) (t .name) (q .old ∷ []) (s .tables) ≡ none → rowWith (s .rows) (t .name) (q .old) ≡ none
+      → rowFault p R s t false (q .row) ≡ some k → o ≡ refused (no k 0) → PairStops p R t s q o
+  old-gone : (k : Refusal) (r : Row) → same (q .old) (keyOf t (q .row)) ≡ false
+      → rowReferenced (s .rows) (t .name) (q .old ∷ []) (s .tables) ≡ none → rowWith (s .rows) (t .name) (q .old) ≡ some r
+      → rowFault p R (apply (removed r) s) t false (q .row) ≡ some k
       → o ≡ record { changes = removed r ∷ []; lines = []; reply = withGone true (no k 0) } → PairStops p R t s q o
 
 -- o is what an update answers that was refused at a pair
