@@ -15,3 +15,4 @@ pub mod Refused
 pub mod Stops
 pub mod Ascii
 pub mod Sheet
+pub mod Order
