@@ -1,8 +1,8 @@
 pub mod Fronts
 pub mod RowLines
 pub mod NextLines
-pub mod DemandSteps
-pub mod Demands
+pub mod Validity
+pub mod Entries
 pub mod Copied
 pub mod LinesLeft
 pub mod Answering

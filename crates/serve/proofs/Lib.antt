@@ -5,3 +5,5 @@ pub mod Coming
 pub mod Turning
 pub mod Resting
 pub mod Serving
+pub mod Doing
+pub mod Demands

@@ -1,0 +1,230 @@
+-- THE THREE DEMANDS, for any bytes: read this file first. Each theorem starts from what an entry promises and ends in bytes: `Lent` is promised of one
+-- record, `Many` of a stream at hand, `Served` of a file, `Freshened` of a fresh store; `Came` is an input that comes in any pieces, through any
+-- buffers. `before` and `after` are the bytes of the lent store, `full` is document 01's store. docs/RULES.md lists the definitions to believe.
+-- Assumes nothing.
+use Prim.Native.Nat.{ℕ, suc, _≤_}
+use mathlib.Core.Path.{_≡_, refl, sym, _∙_, ap, subst}
+use mathlib.Core.Bool.{Bool, true, false, cond, true≢false}
+use mathlib.Core.List.{List, [], _∷_, _++_, map}
+use mathlib.Core.Option.{Option, some}
+use lib.ListN.{length, take}
+use Rattle.values.specs.Bytes.{Bytes}
+use Rattle.values.specs.Value.{Value, normalised}
+use Rattle.forms.specs.Read.{Read, got, broken}
+use Rattle.rules.specs.declared.answer.Answer.{Answer}
+use Rattle.rules.specs.declared.answer.Refusal.the-variants.{StoreUnsound}
+use Rattle.rules.specs.Profile.{full}
+use Rattle.rules.specs.State.{Name, State, empty}
+use Rattle.rules.specs.Layout.{image, parse, placesOf}
+use Rattle.rules.specs.Request.{Pair, Request, Insert, Update, enteredPair, Reply, said, ok, no}
+use Rattle.rules.specs.Step.{Change, Outcome, applyAll, isAccepted, pair, step, after}
+use Rattle.rules.specs.Refused.{oneOf, stayNumbers, inSteps}
+use Rattle.rules.specs.Stops.{outcomeAt, InsertStops, UpdateStops}
+use Rattle.rules.specs.Sound.{rightLength, sound}
+use Rattle.rules.specs.Frame.{names, Untouched}
+use Rattle.rules.specs.Demand.{Demand3}
+use Rattle.laid.specs.Store.{Store, Stored}
+use Rattle.sound.specs.Fresh.{Freshened}
+use Rattle.operations.specs.Told.{outcomeOf}
+use Rattle.requests.specs.declared.entry.Ran.{Ran}
+use Rattle.requests.specs.Demanded.{linesFor}
+use Rattle.requests.specs.Stream.{wholeOf, Lent, recordsIn, stateOf, Many}
+use Rattle.serve.specs.declared.End.the-variants.{Whole}
+use Rattle.serve.specs.declared.Report.{Report}
+use Rattle.serve.specs.Course.{Standing, start, left, textLeft, Came, Course, Served}
+use Rattle.serve.specs.Demanded.{Safe, Calls, Spares}
+use Rattle.rules.proofs.Afterwards.{unchanged, refused-whole, insert-stops, update-stops, update-kept}
+use Rattle.rules.proofs.Demand.{demand-sound}
+use Rattle.rules.proofs.Frame.{untouched}
+use Rattle.rules.proofs.Valid.{Valid, valid-laid}
+use Rattle.sound.proofs.Lengths.{right-is}
+use Rattle.rules.proofs.Whole.{sound-is, image-parse, fresh-sound, parse-image}
+use Rattle.rules.proofs.Widths.{full-known}
+use Rattle.requests.proofs.Entries.{lines-for, unsound-refused, sound-answered}
+use Rattle.requests.proofs.Validity.{whole-readable, outcome-valid, valid-sound}
+use Rattle.serve.proofs.Coming.{all-text, all-bytes}
+use Rattle.serve.proofs.Serving.{store-sound}
+
+-- ==== DEMAND 1: any request bytes, any lent store: the store stays sound or stays as it was, and each refusal has a stated effect on its bytes
+
+-- one record
+pub demand-1-one : (rec before after : List ℕ) (a : Answer) → Bytes rec → Lent full (wholeOf full rec) before after a
+    → Safe before after × (sound full before ≡ false → said a ≡ no StoreUnsound 0)
+demand-1-one rec before after a h l =
+    (record { stays = stays-sound; same = λ e. unsound-refused (wholeOf full rec) before after a l e .1 }, λ e. unsound-refused (wholeOf full rec) before after a l e .0)
+  where
+    stays-sound : sound full before ≡ true → sound full after ≡ true
+    stays-sound e =
+        let b = sound-is full before e in
+        subst (λ (x : List ℕ). sound full x ≡ true) (sym (sound-answered (wholeOf full rec) before after a l e .bytes))
+        (valid-sound full (placesOf full before) full-known (b .least) (b .most) _
+        (outcome-valid full (placesOf full before) (parse full (placesOf full before) before) (wholeOf full rec) (whole-readable full rec h) (b .valid)))
+
+-- any number of calls for one record
+pub demand-1-calls : (recs : List (List ℕ)) (before after : List ℕ) → Calls recs before after → Safe before after
+unfolding Calls
+demand-1-calls [] before after c = record { stays = λ h. ap (sound full) c ∙ h; same = λ h. c }
+demand-1-calls (rec ∷ recs) before after c =
+    let x = demand-1-one rec before (c .0) (c .1) (c .2) (c .3) .0 in
+    let y = demand-1-calls recs (c .0) after (c .4) in
+    record { stays = λ h. y .stays (x .stays h); same = λ h. y .same (ap (sound full) (x .same h) ∙ h) ∙ x .same h }
+
+-- the records at hand
+pub demand-1-many : (input before after out done : List ℕ) (ended : Bool) (i : ℕ) (r : Ran) → Many full input ended i before after out done r → Safe before after
+demand-1-many input before after out done ended i r m =
+    record { stays = λ e. store-sound full (placesOf full before) after (m .runs e .kept); same = λ e. m .refuses e .bytes }
+
+-- a file
+pub demand-1-file : (before after : List ℕ) (last : Bool) (r : Report) → Served full before after last r → Safe before after
+demand-1-file before after last r s = record { stays = s .sound; same = λ e. s .unsound e .0 }
+
+-- ---- the effect of each number on the bytes
+
+module _ (before after : List ℕ) (a : Answer) where
+  abbrev places : ℕ
+  places = placesOf full before
+
+  abbrev stands : State
+  stands = parse full places before
+
+  -- a refusal that yields no change
+  none-changed : (w : Read Request) → Lent full w before after a → (sound full before ≡ true → (outcomeOf full places stands w) .changes ≡ []) → after ≡ before
+  unfolding applyAll
+  none-changed w l h = go (sound full before) refl
+    where
+      go : (b : Bool) → sound full before ≡ b → after ≡ before
+      go true e =
+          sound-answered w before after a l e .bytes ∙ ap (λ (cs : List Change). image full places (applyAll cs stands)) (h e) ∙ image-parse full before e
+      go false e = unsound-refused w before after a l e .1
+
+  no-changes : (w : Read Request) → isAccepted ((outcomeOf full places stands w) .reply) ≡ false → oneOf stayNumbers ((outcomeOf full places stands w) .reply .kind) ≡ false
+      → (outcomeOf full places stands w) .changes ≡ []
+  unfolding outcomeOf
+  no-changes (got q e) = unchanged full places stands q
+  no-changes (broken x) = λ h k. refl
+
+  -- every number but 26 to 34 and 36 leaves every byte as it was, 38 and 1 too
+  pub refused-unchanged : (w : Read Request) → Lent full w before after a → isAccepted (said a) ≡ false → oneOf stayNumbers (said a .kind) ≡ false → after ≡ before
+  refused-unchanged w l f g =
+      none-changed w l
+      (λ e.
+      let s = sound-answered w before after a l e .answer in
+      no-changes w (sym (ap isAccepted s) ∙ f) (sym (ap (λ (r : Reply). oneOf stayNumbers (r .kind)) s) ∙ g))
+
+  -- those too, where the request does not go row by row or pair by pair: a delete refused with 32
+  pub refused-whole-unchanged : (q : Request) (e : ℕ) → Lent full (got q e) before after a → inSteps q ≡ false → isAccepted (said a) ≡ false → after ≡ before
+  unfolding outcomeOf
+  refused-whole-unchanged q e l h f =
+      none-changed (got q e) l (λ k. refused-whole full places stands q h (sym (ap isAccepted (sound-answered (got q e) before after a l k .answer)) ∙ f))
+
+  -- an insert that stops at a row: the rows before it stay, and nothing else changed
+  pub insert-stays : (n : Name) (m : Option (List ℕ)) (rows : List (List Value)) (e : ℕ) → Lent full (got (Insert n m rows) e) before after a → sound full before ≡ true
+      → isAccepted (said a) ≡ false → oneOf stayNumbers (said a .kind) ≡ true
+      → (h : InsertStops full places stands n m (map (map normalised) rows) (step full places stands (Insert n m rows))) × (after ≡ image full places (applyAll (h .turn .earlier) stands))
+  unfolding outcomeOf
+  insert-stays n m rows e l k f g =
+      let r = sound-answered (got (Insert n m rows) e) before after a l k in
+      let h = insert-stops full places stands n m rows (sym (ap isAccepted (r .answer)) ∙ f) (sym (ap (λ (x : Reply). oneOf stayNumbers (x .kind)) (r .answer)) ∙ g) in
+      (h, r .bytes ∙ ap (λ (o : Outcome). image full places (applyAll (o .changes) stands)) (h .is))
+
+  -- an update that stops at a pair: the pairs before it stay and, where GONE is 0, nothing else changed; GONE 1: the pair's old row went too
+  pub update-stays : (n : Name) (qs : List Pair) (e : ℕ) → Lent full (got (Update n qs) e) before after a → sound full before ≡ true
+      → isAccepted (said a) ≡ false → oneOf stayNumbers (said a .kind) ≡ true
+      → (h : UpdateStops full places stands n (map enteredPair qs) (step full places stands (Update n qs)))
+      × (after ≡ image full places (applyAll (h .turn .earlier ++ (outcomeAt (pair full places (h .table)) (h .turn)) .changes) stands))
+      × (said a .gone ≡ false → after ≡ image full places (applyAll (h .turn .earlier) stands))
+  unfolding outcomeOf
+  update-stays n qs e l k f g =
+      let r = sound-answered (got (Update n qs) e) before after a l k in
+      let h = update-stops full places stands n qs (sym (ap isAccepted (r .answer)) ∙ f) (sym (ap (λ (x : Reply). oneOf stayNumbers (x .kind)) (r .answer)) ∙ g) in (
+        h,
+        r .bytes ∙ ap (λ (o : Outcome). image full places (applyAll (o .changes) stands)) (h .is),
+        λ z.
+            r .bytes
+            ∙ ap (λ (cs : List Change). image full places (applyAll cs stands))
+            (update-kept full places stands n (map enteredPair qs) (step full places stands (Update n qs)) h (sym (ap (λ (x : Reply). x .gone) (r .answer)) ∙ z)),
+      )
+
+-- ==== DEMAND 2: it answers and stores what the rules say, for every input
+
+-- one record over a sound store: the answer, and every byte
+pub demand-2-one : (w : Read Request) (before after : List ℕ) (a : Answer) → Lent full w before after a → sound full before ≡ true
+    → let R = placesOf full before in
+    Stored full R (outcomeOf full R (parse full R before) w) before after a
+demand-2-one w before after a l h = sound-answered w before after a l h
+
+-- an input in any pieces, through any buffers, to its end: what was written is the text of the whole input, and the store is the rules' state of its
+-- records
+pub demand-2-whole : (R : ℕ) (before input : List ℕ) (y : Standing) (wrote : List ℕ) → Came full R true (start before) input y wrote → left full y [] ≡ []
+    → (wrote ≡ linesFor R (parse full R before) (recordsIn full input true))
+    × (y .store ≡ image full R (stateOf full R (parse full R before) (recordsIn full input true)))
+demand-2-whole R before input y wrote c n = (
+  sym (all-text full R (start before) y input wrote c n) ∙ lines-for R (parse full R before) (recordsIn full input true),
+  all-bytes full R (start before) y input wrote c n,
+)
+
+-- and at any moment, where writing fails, or the input ends early: a front of that text, and the store of the records that were carried out
+pub demand-2-front : (R : ℕ) (ended : Bool) (before input : List ℕ) (y : Standing) (wrote more : List ℕ) (c : Came full R ended (start before) input y wrote)
+    → (ended ≡ true → more ≡ [])
+    → (rest : List ℕ) × (linesFor R (parse full R before) (recordsIn full (input ++ more) true) ≡ wrote ++ rest)
+    × (y .store ≡ image full R (stateOf full R (parse full R before) (take (c .count) (recordsIn full (input ++ more) true))))
+demand-2-front R ended before input y wrote more c e = (
+  textLeft full R y more,
+  sym (lines-for R (parse full R before) (recordsIn full (input ++ more) true)) ∙ c .text more e,
+  c .store .bytes ∙ ap (image full R) (c .state more e),
+)
+
+-- a file that was read to its end
+pub demand-2-file : (R : ℕ) (before after : List ℕ) (r : Report) (c : Course full R before after true r) → r .end ≡ Whole
+    → (c .wrote ≡ linesFor R (parse full R before) (recordsIn full (c .read) true))
+    × (after ≡ image full R (stateOf full R (parse full R before) (recordsIn full (c .read) true)))
+demand-2-file R before after r c w =
+    let d = c .done w refl in
+    let t = demand-2-whole R before (c .read) (c .end) (c .wrote) (subst (λ (b : Bool). Came full R b (start before) (c .read) (c .end) (c .wrote)) (d .0) (c .came)) (d .1) in
+    (t .0, sym (c .store) ∙ t .1)
+
+-- ==== DEMAND 3: from a fresh store, after any sequence of requests, refused ones too
+
+pub fresh-is-sound : (buffer fresh : List ℕ) (a : Answer) → Freshened full buffer fresh a → rightLength full buffer ≡ true → sound full fresh ≡ true
+fresh-is-sound buffer fresh a f h =
+    let b = right-is full buffer h in
+    subst (λ (x : List ℕ). sound full x ≡ true) (sym (f .bytes ∙ ap (λ (x : Bool). cond x (image full (placesOf full buffer) empty) buffer) h))
+    (fresh-sound full (placesOf full buffer) full-known (b .least) (b .most))
+
+-- byte for byte: the index area is the one rebuilt from schemas and rows, no two places share a defined value of a unique column, every reference that is
+-- not NULL names a stored row. Of any sound store
+pub demand-3 : (b : List ℕ) → sound full b ≡ true → Demand3 full (placesOf full b) b
+demand-3 b h = demand-sound full full-known b h
+
+-- so after any number of calls for one record,
+pub demand-3-calls : (buffer fresh b : List ℕ) (a : Answer) → Freshened full buffer fresh a → rightLength full buffer ≡ true
+    → (recs : List (List ℕ)) → Calls recs fresh b → Demand3 full (placesOf full b) b
+demand-3-calls buffer fresh b a f h recs c = demand-3 b (demand-1-calls recs fresh b c .stays (fresh-is-sound buffer fresh a f h))
+
+-- after any part of an input in pieces, at every moment,
+pub demand-3-pieces : (buffer fresh : List ℕ) (a : Answer) → Freshened full buffer fresh a → rightLength full buffer ≡ true
+    → (R : ℕ) (ended : Bool) (input : List ℕ) (y : Standing) (wrote : List ℕ) → Came full R ended (start fresh) input y wrote → Demand3 full (placesOf full (y .store)) (y .store)
+demand-3-pieces buffer fresh a f h R ended input y wrote c = demand-3 (y .store) (store-sound full R (y .store) (c .store))
+
+-- and after a file
+pub demand-3-file : (buffer fresh after : List ℕ) (a : Answer) → Freshened full buffer fresh a → rightLength full buffer ≡ true
+    → (last : Bool) (r : Report) → Served full fresh after last r → Demand3 full (placesOf full after) after
+demand-3-file buffer fresh after a f h last r s = demand-3 after (s .sound (fresh-is-sound buffer fresh a f h))
+
+-- what belongs to tables that a record does not name is as it was: of every record of a stream in its turn (`stateOf` goes on with this state),
+pub demand-3-others : (R : ℕ) (s : State) (w : Read Request) (n : Name) → Spares n w → Untouched n s (applyAll ((outcomeOf full R s w) .changes) s)
+unfolding outcomeOf applyAll after
+demand-3-others R s (got q e) n h = untouched full R s q n h
+demand-3-others R s (broken x) n h = record { schema = refl; rows = refl; entries = refl }
+
+-- and of one record, as the bytes are read
+pub demand-3-others-one : (rec before after : List ℕ) (a : Answer) (n : Name) → Bytes rec → Lent full (wholeOf full rec) before after a → sound full before ≡ true → Spares n (wholeOf full rec)
+    → Untouched n (parse full (placesOf full before) before) (parse full (placesOf full before) after)
+demand-3-others-one rec before after a n h l e sp =
+    let b = sound-is full before e in
+    let R : ℕ = placesOf full before in
+    let s : State = parse full R before in
+    let z : State = applyAll ((outcomeOf full R s (wholeOf full rec)) .changes) s in
+    let v : Valid full R z = outcome-valid full R s (wholeOf full rec) (whole-readable full rec h) (b .valid) in
+    let k : parse full R after ≡ z = ap (parse full R) (sound-answered (wholeOf full rec) before after a l e .bytes) ∙ parse-image full full-known R (b .most) z (valid-laid v) in
+    subst (Untouched n s) (sym k) (demand-3-others R s (wholeOf full rec) n sp)
