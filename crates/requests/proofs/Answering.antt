@@ -1,5 +1,5 @@
 -- A record answered: a write shows no row lines, the line of an answer without them, and what is answered for each kind of record. Assumes nothing.
-use Prim.Native.Nat.{ℕ, _<_}
+use Prim.Native.Nat.{ℕ, _≤_, _<_}
 use native.Mathlib.Omega.{arith}
 use mathlib.Core.Path.{_≡_, refl, sym, ap, _∙_}
 use mathlib.Core.Bool.{Bool, true, cond, true≢false}
@@ -7,7 +7,7 @@ use mathlib.Core.List.{List, [], _++_, append-nil}
 use lib.Dec.{eqb}
 use lib.ListN.{length, getD, take, drop, length-append, length-drop}
 use lib.Seq.{drop-nil}
-use borrow.Author.Tests.{ne-eqb}
+use borrow.Author.Tests.{ne-eqb, le-leb}
 use Rattle.values.specs.Value.{Value}
 use Rattle.forms.specs.Read.{Read, got, broken, nameAt}
 use Rattle.forms.specs.Print.{Front}
@@ -32,6 +32,7 @@ use Rattle.requests.specs.Lines.{rowLines, answerLine}
 use Rattle.requests.specs.Places.{textFrom, Wrote}
 use Rattle.requests.specs.Stream.{Answered}
 use Rattle.requests.proofs.Copied.{front-is}
+use Rattle.requests.proofs.Fitting.{lines-all}
 use Rattle.operations.proofs.Entered.{same-operands, Still, still-operands, operands-got, outcome-is}
 use Rattle.mapping.proofs.Read.{Gives, gives, gives-then, gives-either, gives-got, gives-broken}
 
@@ -83,17 +84,31 @@ silent p R st q e h = ap (λ (x : Request). (act p R st x) .lines) (sym e) ∙ w
 
 -- ---- an answer that has no row lines
 
-pub only-wrote : (o : Outcome) (i : ℕ) (a : Reply) (out done : List ℕ) (r : Put) → o .lines ≡ [] → a ≡ o .reply → Front (answerLine a) out done (r .written) → r .done ≡ true → length done ≡ length out
+-- its line alone is written
+abbrev pub Only : Reply → List ℕ → List ℕ → Put → Type 0
+Only a out done r = Front (answerLine a) out done (r .written) × (r .lines ≡ 0) × (r .done ≡ true)
+
+pub only-wrote : (o : Outcome) (i : ℕ) (a : Reply) (out done : List ℕ) (r : Put) → o .lines ≡ [] → a ≡ o .reply → Only a out done r
+    → length done ≡ length out
     → Wrote o i out done r
 unfolding textFrom rowLines
-only-wrote o i a out done r none e f d l =
+only-wrote o i a out done r none e (f, z, d) l =
     let t : take (r .written) done ≡ answerLine a = front-is (answerLine a) out done (r .written) f in
+    let x : textFrom o i ≡ answerLine a =
+    ap (λ (ls : List (List Value)). rowLines (drop i ls) ++ answerLine (o .reply)) none
+    ∙ ap (λ (ls : List (List Value)). rowLines ls ++ answerLine (o .reply)) (drop-nil i)
+    ∙ ap answerLine (sym e)
+    in
+    let w : r .written ≤ length out =
+    omega (arith, f .count, ap length (f .bytes), length-append (answerLine a) (drop (r .written) out), length-drop (r .written) out)
+    in
     record {
-      fits = omega (arith, f .count, ap length (f .bytes), length-append (answerLine a) (drop (r .written) out), length-drop (r .written) out);
+      whole = d ∙ sym (le-leb (length (textFrom o i)) (length out) (omega (arith, ap length x, f .count)));
+      count = z ∙ sym (lines-all o i (length out) (rw none (omega arith)) ∙ ap length none);
+      long = l;
+      fits = w;
       text =
-          ap (λ (ls : List (List Value)). rowLines (drop i ls) ++ answerLine (o .reply)) none
-          ∙ ap (λ (ls : List (List Value)). rowLines ls ++ answerLine (o .reply)) (drop-nil i)
-          ∙ ap answerLine (sym e)
+          x
           ∙ sym t
           ∙ sym (append-nil (take (r .written) done))
           ∙ ap (λ (b : Bool). take (r .written) done ++ cond b [] (textFrom o (r .lines))) (sym d);
@@ -111,10 +126,12 @@ module _ (p : Profile) (R : ℕ) (before : List ℕ) (r : Read Request) (i : ℕ
 
   -- a broken one
   pub broken-answered : Store p R before → outcomeOf p R (parse p R before) r ≡ refused (no RecordBroken 0) → (a : Answer) → said a ≡ no RecordBroken 0
-      → Front (answerLine (said a)) out done (put .written) → put .done ≡ true → length done ≡ length out → Answered p R r i before before out done put
-  broken-answered b e a ea f d l =
+      → Only (said a) out done put → length done ≡ length out
+      → Answered p R r i before before out done put
+  broken-answered b e a ea f l =
       stayed b (ap (λ (o : Outcome). o .changes) e)
-      (only-wrote (outcomeOf p R (parse p R before) r) i (said a) out done put (ap (λ (o : Outcome). o .lines) e) (ea ∙ ap (λ (o : Outcome). o .reply) (sym e)) f d l)
+      (only-wrote (outcomeOf p R (parse p R before) r) i (said a) out done put (ap (λ (o : Outcome). o .lines) e)
+      (ea ∙ ap (λ (o : Outcome). o .reply) (sym e)) f l)
 
 module _ (p : Profile) (s : List ℕ) (w : Walked) (ew : w ≡ walkedAs (requestOf s p)) (n : ℕ) (en : w ≡ Ends n) (k : ℕ) (ek : k ≡ getD s 1 0) (R : ℕ) (before : List ℕ) where
   abbrev its : Outcome
@@ -137,16 +154,17 @@ module _ (p : Profile) (s : List ℕ) (w : Walked) (ew : w ≡ walkedAs (request
         ∙ given-or (Still p R (parse p R before)) (operandsAt s p k 2) (operands-got p s w ew n en k ek) (still-operands p R (parse p R before) s k 2 l))
         x
 
-    pub write-answered : k < 6 → (after : List ℕ) (a : Answer) → Stored p R (act p R (parse p R before) asked) before after a → Front (answerLine (said a)) out done (put .written) → put .done ≡ true → length done ≡ length out
+    pub write-answered : k < 6 → (after : List ℕ) (a : Answer) → Stored p R (act p R (parse p R before) asked) before after a
+        → Only (said a) out done put → length done ≡ length out
         → Answered p R (requestOf s p) i before after out done put
-    write-answered l after a t f d e =
+    write-answered l after a t f e =
         let o = operands-got p s w ew n en k ek in
         let g : (act p R (parse p R before) asked) .lines ≡ [] =
         silent p R (parse p R before) asked (given-or (λ q. entered q ≡ q) (operandsAt s p k 2) o (same-operands s p k 2))
         (given-or (λ q. isWrite q ≡ true) (operandsAt s p k 2) o (gives-writes s p k 2 l))
         in
         record {
-          wrote = only-wrote its i (said a) out done put (ap (λ (o : Outcome). o .lines) its-is ∙ g) (reply-is a (t .answer)) f d e;
+          wrote = only-wrote its i (said a) out done put (ap (λ (o : Outcome). o .lines) its-is ∙ g) (reply-is a (t .answer)) f e;
           bytes = t .bytes ∙ ap (λ (x : Outcome). image p R (applyAll (x .changes) (parse p R before))) (sym its-is);
-          again = λ z. absurd (true≢false (sym d ∙ z));
+          again = λ z. absurd (true≢false (sym (f .2) ∙ z));
         }

@@ -4,7 +4,10 @@ pub mod NextLines
 pub mod Validity
 pub mod Entries
 pub mod Copied
+pub mod Fitting
 pub mod LinesLeft
 pub mod Answering
+pub mod Reaching
 pub mod Running
+pub mod RunSteps
 pub mod Lending

@@ -1,11 +1,13 @@
 -- The lines of a request that are left from a place on, and what is written of them. Assumes nothing.
 use Prim.Native.Nat.{ℕ, suc, _+_, _-_, _≤_, _<_, max}
+use native.Mathlib.Nat.{sub-zero}
 use native.Mathlib.Omega.{arith}
 use mathlib.Core.Path.{_≡_, refl, sym, ap, _∙_, subst}
 use mathlib.Core.Bool.{Bool, true, false, cond, not, _&&_, true≢false}
 use mathlib.Core.List.{List, [], _∷_, _++_, map, map-map, append-nil, append-assoc}
-use lib.ListN.{length, take, drop, length-drop, drop-of-length-le}
-use lib.Seq.{drop-drop}
+use lib.ListN.{length, take, drop, length-append, length-drop, drop-of-length-le}
+use lib.Seq.{drop-drop, length-take-le}
+use borrow.Author.Tests.{le-leb, lt-leb}
 use borrow.Rule.Slice.PartMut.{putMid}
 use Rattle.values.specs.Basic.{keep, keepIf, maybe}
 use Rattle.values.specs.Value.{Value, null, before, among}
@@ -28,8 +30,9 @@ use Rattle.mapping.specs.Got.{isGot, gotOr}
 use Rattle.operations.specs.Told.{outcomeOf}
 use Rattle.requests.specs.Lines.{rowLine, rowLines, rowMost, answerLine}
 use Rattle.requests.proofs.Copied.{front-is, front-told, front-copied, front-back}
+use Rattle.requests.proofs.Fitting.{lines-all, lines-stay, lines-next}
 use Rattle.requests.proofs.Fronts.{front-length}
-use Rattle.requests.specs.Places.{keyLine, linesFrom, NextLine, ended, wrote, textFrom, Wrote}
+use Rattle.requests.specs.Places.{keyLine, linesFrom, NextLine, ended, wrote, textFrom, linesTo, Wrote}
 
 -- ---- at the start all of them are left
 
@@ -154,6 +157,8 @@ module _ (ls rest : List (List Value)) (before after : List ℕ) (n : ℕ) where
 
 pub record Going (o : Outcome) (i : ℕ) (ls : List (List Value)) (before now : List ℕ) (written lines : ℕ) : Type 0 where
   pub rest : ls ≡ drop lines (o .lines)
+  pub few : lines ≤ length (o .lines)
+  pub count : linesTo o i (length before) ≡ linesTo o (max i lines) (length before - written)
   pub fits : written ≤ length now
   pub long : length now ≡ length before
   pub front : Front (take written now) before now written
@@ -163,11 +168,20 @@ module _ (o : Outcome) (i : ℕ) (before : List ℕ) where
   pub going-start : (ls : List (List Value)) → ls ≡ o .lines → Going o i ls before before 0 0
   going-start ls e =
       let m : i ≡ max i 0 = omega arith in
-      record { rest = e; fits = omega arith; long = refl; front = record { count = refl; bytes = refl }; text = ap (λ (k : ℕ). rowLines (drop k (o .lines))) m }
+      record {
+        rest = e;
+        few = omega arith;
+        count = ap (λ (k : ℕ). linesTo o k (length before)) m ∙ ap (linesTo o (max i 0)) (sym (sub-zero (length before)));
+        fits = omega arith;
+        long = refl;
+        front = record { count = refl; bytes = refl };
+        text = ap (λ (k : ℕ). rowLines (drop k (o .lines))) m;
+      }
 
   module _ (ls : List (List Value)) (now : List ℕ) (written lines : ℕ) (g : Going o i ls before now written lines) where
     pub going-ends : ls ≡ [] → Going o i [] before now written lines
-    going-ends e = record { rest = sym e ∙ g .rest; fits = g .fits; long = g .long; front = g .front; text = g .text }
+    going-ends e =
+        record { rest = sym e ∙ g .rest; few = g .few; count = g .count; fits = g .fits; long = g .long; front = g .front; text = g .text }
 
     module _ (l : List Value) (rest : List (List Value)) (e : ls ≡ l ∷ rest) where
       next : rest ≡ drop (lines + 1) (o .lines)
@@ -179,7 +193,15 @@ module _ (o : Outcome) (i : ℕ) (before : List ℕ) where
       pub going-skips : lines < i → Going o i rest before now written (lines + 1)
       going-skips h =
           let m : max i lines ≡ max i (lines + 1) = omega arith in
-          record { rest = next; fits = g .fits; long = g .long; front = g .front; text = g .text ∙ ap (λ (k : ℕ). take written now ++ rowLines (drop k (o .lines))) m }
+          record {
+            rest = next;
+            few = omega (arith, one-left);
+            count = g .count ∙ ap (λ (k : ℕ). linesTo o k (length before - written)) m;
+            fits = g .fits;
+            long = g .long;
+            front = g .front;
+            text = g .text ∙ ap (λ (k : ℕ). take written now ++ rowLines (drop k (o .lines))) m;
+          }
 
       module _ (q : List ℕ) (n : ℕ) (eq : q ≡ rowLine l) (en : length q ≡ n) (room : written + n ≤ length now) (h : i ≤ lines) where
         abbrev copied : List ℕ
@@ -205,43 +227,90 @@ module _ (o : Outcome) (i : ℕ) (before : List ℕ) where
             ∙ ap (λ (x : List (List Value)). take (written + n) copied ++ rowLines x) next
             ∙ ap (λ (j : ℕ). take (written + n) copied ++ rowLines (drop j (o .lines))) k
 
+        count-next : linesTo o i (length before) ≡ linesTo o (max i (lines + 1)) (length before - (written + n))
+        count-next =
+            let m : max i lines ≡ lines = omega arith in
+            let k : lines + 1 ≡ max i (lines + 1) = omega arith in
+            let w : length (rowLine l) ≡ n = ap length (sym eq) ∙ en in
+            let d : length before - written - n ≡ length before - (written + n) = omega arith in
+            g .count
+            ∙ ap (λ (j : ℕ). linesTo o j (length before - written)) m
+            ∙ lines-next o lines (length before - written) l rest (sym (g .rest) ∙ e) (omega (arith, w, g .long))
+            ∙ ap (λ (j : ℕ). linesTo o (lines + 1) (length before - written - j)) w
+            ∙ ap (linesTo o (lines + 1)) d
+            ∙ ap (λ (j : ℕ). linesTo o j (length before - (written + n))) k
+
         pub going-writes : Going o i rest before copied (written + n) (lines + 1)
         going-writes =
             let r : written + n ≤ length before = omega (arith, g .long) in
             let f = front-length (take written now ++ q) before copied (written + n) front-next r in
             record {
               rest = next;
+              few = omega (arith, one-left);
+              count = count-next;
               fits = omega arith;
               long = f;
               front = front-told (take written now ++ q) before copied (written + n) front-next;
               text = text-next;
             }
 
-    -- ---- a line does not fit
+    -- ---- a line of n bytes does not fit
 
-    stays : drop (max i lines) (o .lines) ≡ drop lines (o .lines) → (n : ℕ) → length now - written < n → n ≤ rowMost → Wrote o i before now (record { written = written; lines = lines; done = false })
+    stays : drop (max i lines) (o .lines) ≡ drop lines (o .lines) → linesTo o (max i lines) (length before - written) ≡ lines
+        → (n : ℕ) → n ≤ length (textFrom o lines) → length now - written < n → n ≤ rowMost
+        → Wrote o i before now (record { written = written; lines = lines; done = false })
     unfolding textFrom
-    stays e n l m =
+    stays e c n k l m =
+        let t : textFrom o i ≡ take written now ++ textFrom o lines =
+        ap (λ (x : List ℕ). x ++ answerLine (o .reply)) (g .text ∙ ap (λ (x : List (List Value)). take written now ++ rowLines x) e)
+        ∙ append-assoc (take written now) (rowLines (drop lines (o .lines))) (answerLine (o .reply))
+        in
+        let w : length (textFrom o i) ≡ length (take written now) + length (textFrom o lines) =
+        ap length t ∙ length-append (take written now) (textFrom o lines)
+        in
         record {
+          whole = sym (lt-leb (length (textFrom o i)) (length before) (omega (arith, w, length-take-le written now (g .fits), g .long)));
+          count = sym (g .count ∙ c);
+          long = g .long;
           fits = omega (arith, g .fits, g .long);
-          text =
-              ap (λ (x : List ℕ). x ++ answerLine (o .reply)) (g .text ∙ ap (λ (x : List (List Value)). take written now ++ rowLines x) e)
-              ∙ append-assoc (take written now) (rowLines (drop lines (o .lines))) (answerLine (o .reply));
+          text = t;
           bytes = g .front .bytes;
           room = λ d. omega (arith, g .long);
         }
 
-    pub line-stays : i ≤ lines → (n : ℕ) → length now - written < n → n ≤ rowMost → Wrote o i before now (record { written = written; lines = lines; done = false })
-    line-stays h n l m = let k : max i lines ≡ lines = omega arith in stays (ap (λ (j : ℕ). drop j (o .lines)) k) n l m
+    -- a row line
+    pub line-stays : (l : List Value) (rest : List (List Value)) → ls ≡ l ∷ rest → i ≤ lines → (n : ℕ) → n ≡ length (rowLine l)
+        → length now - written < n → n ≤ rowMost
+        → Wrote o i before now (record { written = written; lines = lines; done = false })
+    unfolding textFrom rowLines
+    line-stays v rest e h n en l m =
+        let k : max i lines ≡ lines = omega arith in
+        let d : drop lines (o .lines) ≡ v ∷ rest = sym (g .rest) ∙ e in
+        let a : length (textFrom o lines) ≡ length (rowLine v) + length (rowLines rest) + length (answerLine (o .reply)) =
+        rw (d, length-append (rowLine v ++ rowLines rest) (answerLine (o .reply)), length-append (rowLine v) (rowLines rest))
+        in
+        stays (ap (λ (j : ℕ). drop j (o .lines)) k)
+        (ap (λ (j : ℕ). linesTo o j (length before - written)) k
+        ∙ lines-stay o lines (length before - written) v rest d (omega (arith, g .long)))
+        n (omega arith) l m
 
     module _ (none : ls ≡ []) where
-      all-passed : drop (max i lines) (o .lines) ≡ []
-      all-passed =
-          let k : length (o .lines) ≤ max i lines = omega (arith, length-drop lines (o .lines), ap length (sym (g .rest) ∙ none)) in
-          drop-of-length-le (o .lines) k
+      all-told : length (o .lines) ≡ lines
+      all-told = omega (arith, g .few, length-drop lines (o .lines), ap length (sym (g .rest) ∙ none))
 
-      pub answer-stays : (n : ℕ) → length now - written < n → n ≤ rowMost → Wrote o i before now (record { written = written; lines = lines; done = false })
-      answer-stays n l m = stays (all-passed ∙ sym none ∙ g .rest) n l m
+      all-passed : drop (max i lines) (o .lines) ≡ []
+      all-passed = let k : length (o .lines) ≤ max i lines = omega (arith, all-told) in drop-of-length-le (o .lines) k
+
+      all-lines : linesTo o (max i lines) (length before - written) ≡ lines
+      all-lines = lines-all o (max i lines) (length before - written) (omega (arith, all-told)) ∙ all-told
+
+      -- the answer
+      pub answer-stays : (n : ℕ) → n ≡ length (answerLine (o .reply)) → length now - written < n → n ≤ rowMost
+          → Wrote o i before now (record { written = written; lines = lines; done = false })
+      unfolding textFrom
+      answer-stays n en l m =
+          stays (all-passed ∙ sym none ∙ g .rest) all-lines n
+          (omega (arith, en, length-append (rowLines (drop lines (o .lines))) (answerLine (o .reply)))) l m
 
       -- ---- all is written
 
@@ -252,13 +321,22 @@ module _ (o : Outcome) (i : ℕ) (before : List ℕ) where
           let z : List ℕ = putMid written (written + n - written) now q in
           let f : Front (take written now ++ q) before z (written + n) = front-copied (take written now) before now q written n (g .front) en in
           let t : take (written + n) z ≡ take written now ++ q = front-is (take written now ++ q) before z (written + n) f in
+          let b : written + n ≤ length before = omega (arith, g .long) in
+          let k : length z ≡ length before = front-length (take written now ++ q) before z (written + n) f b in
+          let x : textFrom o i ≡ take (written + n) z =
+          ap (λ (x : List ℕ). x ++ answerLine (o .reply))
+          (g .text ∙ ap (λ (x : List (List Value)). take written now ++ rowLines x) all-passed ∙ append-nil (take written now))
+          ∙ ap (λ (x : List ℕ). take written now ++ x) (sym eq)
+          ∙ sym t
+          in
           record {
-            fits = omega (arith, g .long);
-            text =
-                ap (λ (x : List ℕ). x ++ answerLine (o .reply)) (g .text ∙ ap (λ (x : List (List Value)). take written now ++ rowLines x) all-passed ∙ append-nil (take written now))
-                ∙ ap (λ (x : List ℕ). take written now ++ x) (sym eq)
-                ∙ sym t
-                ∙ sym (append-nil (take (written + n) z));
+            whole =
+                let w = length-take-le (written + n) z (omega (arith, k, b)) in
+                sym (le-leb (length (textFrom o i)) (length before) (omega (arith, ap length x, w)));
+            count = sym (g .count ∙ all-lines);
+            long = k;
+            fits = b;
+            text = x ∙ sym (append-nil (take (written + n) z));
             bytes = f .bytes ∙ ap (λ (x : List ℕ). x ++ drop (written + n) before) (sym t);
             room = λ d. absurd (true≢false d);
           }
@@ -294,7 +372,7 @@ module _ (o : Outcome) (i : ℕ) (before : List ℕ) (m : Bool) (on : m ≡ true
         rw (ez, ew) (new-left now written (lines + 1) (going-skips o i before old now written lines old-left (its .values) new (its .left) h))
 
     pub turn-stays : i ≤ lines → length now - written < n → n ≤ rowMost → Wrote o i before now (record { written = written; lines = lines; done = false })
-    turn-stays h l k = line-stays o i before old now written lines old-left h n l k
+    turn-stays h l k = line-stays o i before old now written lines old-left (its .values) new (its .left) h n (its .front .count) l k
 
     pub turn-writes : (z q behind : List ℕ) (w : ℕ) → z ≡ putMid written (written + n - written) now q → w ≡ written + n → q ≡ take (n - 0) (last ++ behind) → i ≤ lines → n ≤ length now - written
         → Going o i (cond m new []) before z w (lines + 1)
@@ -314,7 +392,7 @@ module _ (o : Outcome) (i : ℕ) (before : List ℕ) (m : Bool) (off : m ≡ fal
   none-left = rw off
 
   pub end-stays : length now - written < n → n ≤ rowMost → Wrote o i before now (record { written = written; lines = lines; done = false })
-  end-stays l k = answer-stays o i before (cond m old []) now written lines g none-left n l k
+  end-stays l k = answer-stays o i before (cond m old []) now written lines g none-left n (x .count) l k
 
   pub end-writes : (q behind : List ℕ) → q ≡ take (n - 0) (last ++ behind) → n ≤ length now - written
       → Wrote o i before (putMid written (written + n - written) now q) (record { written = written + n; lines = lines; done = true })

@@ -1,8 +1,9 @@
 -- A request's lines written one after the other: what is left of them from a place on, and as many at a time as fit. Assumes nothing.
-use Prim.Native.Nat.{ℕ, _-_, _≤_, _<_}
+use Prim.Native.Nat.{ℕ, suc, _+_, _-_, _≤_, _<_, min}
 use mathlib.Core.Path.{_≡_}
 use mathlib.Core.Bool.{false, cond}
 use mathlib.Core.List.{List, [], _∷_, _++_, map}
+use lib.Dec.{leb}
 use lib.ListN.{length, take, drop}
 use Rattle.values.specs.Basic.{keep}
 use Rattle.values.specs.Value.{Value, text, before}
@@ -56,8 +57,20 @@ pub record Lined (s : State) (q : Request) (i : ℕ) (k : Value) (before after :
 unfoldable pub textFrom : Outcome → ℕ → List ℕ
 textFrom o i = rowLines (drop i (o .lines)) ++ answerLine (o .reply)
 
--- what was written and what is left are the text; where it is not done, a line did not fit into the room that is left
+-- how many of these row lines fit into a room, whole, one after the other
+unfoldable pub fitting : List (List Value) → ℕ → ℕ
+fitting [] room = 0
+fitting (l ∷ ls) room = cond (leb (length (rowLine l)) room) (suc (fitting ls (room - length (rowLine l)))) 0
+
+-- how many row lines of an outcome are written in all: `i` of them before, and as many more as fit
+unfoldable pub linesTo : Outcome → ℕ → ℕ → ℕ
+linesTo o i room = min i (length (o .lines)) + fitting (drop i (o .lines)) room
+
+-- what was written and what is left are the text; all of it where it fits, else as many whole lines as fit
 pub record Wrote (o : Outcome) (i : ℕ) (before after : List ℕ) (r : Put) : Type 0 where
+  pub whole : r .done ≡ leb (length (textFrom o i)) (length before)
+  pub count : r .lines ≡ linesTo o i (length before)
+  pub long : length after ≡ length before
   pub fits : r .written ≤ length before
   pub text : textFrom o i ≡ take (r .written) after ++ cond (r .done) [] (textFrom o (r .lines))
   pub bytes : after ≡ take (r .written) after ++ drop (r .written) before

@@ -3,7 +3,7 @@ use Prim.Native.Nat.{ℕ, zero, suc, _+_, _-_, _≤_, _<_, min}
 use mathlib.Core.Path.{_≡_}
 use mathlib.Core.Bool.{Bool, true, false, cond}
 use mathlib.Core.List.{List, [], _∷_, _++_}
-use lib.Dec.{eqb, leb}
+use lib.Dec.{eqb, leb, ltb}
 use lib.ListN.{length, take, drop}
 use Rattle.forms.specs.Read.{Read, broken}
 use Rattle.forms.specs.Print.{Front}
@@ -18,6 +18,7 @@ use Rattle.rules.specs.Sound.{sound}
 use Rattle.laid.specs.Store.{Store}
 use Rattle.records.specs.declared.frame.Framed.{Framed}
 use Rattle.records.specs.declared.frame.Framed.the-variants.{Whole, Skip, More, Cut, Done}
+use Rattle.requests.specs.declared.entry.Halt.{Halt}
 use Rattle.requests.specs.declared.entry.Halt.the-variants.{Full, Waiting, Stopped, Unsound}
 use Rattle.requests.specs.declared.entry.Ran.{Ran}
 use Rattle.requests.specs.declared.lines.Put.{Put}
@@ -25,7 +26,7 @@ use Rattle.records.specs.Record.{requestOf}
 use Rattle.records.specs.Frame.{framed}
 use Rattle.requests.specs.Lines.{rowMost, answerLine, answerMost}
 use Rattle.operations.specs.Told.{outcomeOf}
-use Rattle.requests.specs.Places.{textFrom, Wrote}
+use Rattle.requests.specs.Places.{textFrom, linesTo, Wrote}
 
 -- ---- one record, its two length bytes included; shorter or longer than its length says it is broken
 
@@ -99,6 +100,29 @@ pub record Answered (p : Profile) (R : ℕ) (q : Read Request) (i : ℕ) (before
   pub bytes : after ≡ image p R (applyAll ((outcomeOf p R (parse p R before) q) .changes) (parse p R before))
   pub again : r .done ≡ false → (outcomeOf p R (parse p R before) q) .changes ≡ []
 
+-- ---- how far a run comes: records answered, row lines of the next one that are written, and why it ends
+
+pub record Reach : Type 0 where
+  pub count : ℕ
+  pub lines : ℕ
+  pub halt : Halt
+
+abbrev pub halted : ℕ → Halt → Reach
+halted i h = record { count = 0; lines = i; halt = h }
+
+abbrev pub further : ℕ → Reach → Reach
+further n x = record { count = n + x .count; lines = x .lines; halt = x .halt }
+
+-- a record is begun where the longest row line has room; its text that is left is written whole where it fits, else as many lines as fit
+unfoldable pub reach : Profile → ℕ → Bool → State → List (Read Request) → ℕ → ℕ → Reach
+reach p R ended s [] i room = halted i (cond (ltb room rowMost) Full (cond ended Stopped Waiting))
+reach p R ended s (q ∷ qs) i room =
+    let o : Outcome = outcomeOf p R s q in
+    cond (ltb room rowMost) (halted i Full)
+    (cond (leb (length (textFrom o i)) room)
+    (further 1 (reach p R ended (applyAll (o .changes) s) qs 0 (room - length (textFrom o i))))
+    (halted (linesTo o i room) Full))
+
 -- ---- a run over a sound store: `count` records are answered, and what is left of the input and of the text is told
 
 -- the state behind the records that are answered, and the records that are left
@@ -109,6 +133,8 @@ abbrev pub recordsLeft : Profile → List ℕ → Bool → ℕ → List (Read Re
 recordsLeft p input ended n = drop n (recordsIn p input ended)
 
 pub record Runs (p : Profile) (R : ℕ) (input : List ℕ) (ended : Bool) (i : ℕ) (before after out done : List ℕ) (r : Ran) : Type 0 where
+  pub reached : record { count = r .count; lines = r .lines; halt = r .halt }
+      ≡ reach p R ended (parse p R before) (recordsIn p input ended) i (length out)
   pub few : r .count ≤ length (recordsIn p input ended)
   pub passed : r .taken ≡ min (bytesOf (r .count) input ended) (length input)
   pub over : r .skip ≡ bytesOf (r .count) input ended - length input
@@ -117,6 +143,7 @@ pub record Runs (p : Profile) (R : ℕ) (input : List ℕ) (ended : Bool) (i : �
   pub text : textOf p R (parse p R before) (recordsIn p input ended) i ≡ take (r .written) done ++ textOf p R (stateThen p R input ended before (r .count)) (recordsLeft p input ended (r .count)) (r .lines)
   pub next : recordsLeft p input ended (r .count) ≡ [] → r .lines ≡ cond (eqb (r .count) 0) i 0
   pub fits : r .written ≤ length out
+  pub long : length done ≡ length out
   pub front : done ≡ take (r .written) done ++ drop (r .written) out
   pub kept : Store p R after
   pub state : parse p R after ≡ stateThen p R input ended before (r .count)

@@ -28,11 +28,11 @@ ghost use Rattle.requests.specs.Stream.{wholeOf, Lent, Answered, Runs, M
 
 // Why a run came to its end.
 pub enum Halt {
-    // the output has no room for the next line
+    // the output has no room for the next line, or none for the longest one to begin a record
     Full,
     // more bytes are needed
     Waiting,
-    // the input is at its end, or was cut off
+    // the input is at its end
     Stopped,
     // the store is not sound
     Unsound,
@@ -179,14 +179,10 @@ pub fn run(
                     &mut out[written..],
                     answer::refused(Refusal::RecordBroken, 0),
                 );
-                return Ran {
-                    halt: Halt::Stopped,
-                    taken: input.len(),
-                    skip,
-                    count: count + 1,
-                    written: written + put.written,
-                    lines: 0,
-                };
+                written += put.written;
+                count += 1;
+                lines = 0;
+                taken = input.len();
             }
             Framed::Done => {
                 return Ran {

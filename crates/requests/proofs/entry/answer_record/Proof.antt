@@ -79,7 +79,7 @@ returns-2 c =
     let a = b .args in
     let o = c .before .before in
     let e = walked-broken (requestOf (a .rec .now) (a .p)) (w .walk .result) _ (w .walk .ensures) (c .before .before .before .before .before .enum-told .given .1) in
-    broken-answered (a .p) (a .places) (a .s .now) (requestOf (a .rec .now) (a .p)) (a .from) (a .out .now) (o .put-only .last .0) (o .put-only .result) (b .pre .0) (ap (outcomeOf (a .p) (a .places) (parse (a .p) (a .places) (a .s .now))) e ∙ broken-outcome (a .p) (a .places) (parse (a .p) (a .places) (a .s .now)) _) (o .before .refused .result) (o .before .refused .ensures) (o .put-only .ensures .0) (o .put-only .ensures .2) (o .put-only .kept .0)
+    broken-answered (a .p) (a .places) (a .s .now) (requestOf (a .rec .now) (a .p)) (a .from) (a .out .now) (o .put-only .last .0) (o .put-only .result) (b .pre .0) (ap (outcomeOf (a .p) (a .places) (parse (a .p) (a .places) (a .s .now))) e ∙ broken-outcome (a .p) (a .places) (parse (a .p) (a .places) (a .s .now)) _) (o .before .refused .result) (o .before .refused .ensures) (o .put-only .ensures) (o .put-only .kept .0)
 
 same-length-4 : tie.Need-same-length-4
 same-length-4 c = search needs
@@ -93,7 +93,7 @@ returns-3 c =
     let b = w .before .before .before .before in
     let a = b .args in
     let o = c .before .before in
-    write-answered (a .p) (a .rec .now) (w .walk .result) (w .walk .ensures) _ (c .before .before .before .before .before .before .before .before .before .before .enum-told2 .given .1) (c .before .before .before .before .before .before .before .before .before .byte-of .result) (c .before .before .before .before .before .before .before .before .before .byte-of .ensures) (a .places) (a .s .now) (a .from) (a .out .now) (o .put-only2 .last .0) (o .put-only2 .result) (omega (arith, c .before .before .before .before .before .before .before .before .if1 .left)) (c .before .before .before .before .before .before .write .last .0) (c .before .before .before .before .before .before .write .result) (c .before .before .before .before .before .before .write .ensures) (o .put-only2 .ensures .0) (o .put-only2 .ensures .2) (o .put-only2 .kept .0)
+    write-answered (a .p) (a .rec .now) (w .walk .result) (w .walk .ensures) _ (c .before .before .before .before .before .before .before .before .before .before .enum-told2 .given .1) (c .before .before .before .before .before .before .before .before .before .byte-of .result) (c .before .before .before .before .before .before .before .before .before .byte-of .ensures) (a .places) (a .s .now) (a .from) (a .out .now) (o .put-only2 .last .0) (o .put-only2 .result) (omega (arith, c .before .before .before .before .before .before .before .before .if1 .left)) (c .before .before .before .before .before .before .write .last .0) (c .before .before .before .before .before .before .write .result) (c .before .before .before .before .before .before .write .ensures) (o .put-only2 .ensures) (o .put-only2 .kept .0)
 
 pub answer-record-spec : {M : Type 1} → statement M
 answer-record-spec =
