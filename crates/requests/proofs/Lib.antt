@@ -3,6 +3,9 @@ pub mod RowLines
 pub mod NextLines
 pub mod Validity
 pub mod Entries
+pub mod OneAnswer
+pub mod AllAnswered
+pub mod SheetPrinted
 pub mod Copied
 pub mod Fitting
 pub mod LinesLeft

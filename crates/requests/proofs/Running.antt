@@ -13,7 +13,7 @@ use Rattle.forms.specs.Read.{Read, got, broken}
 use Rattle.values.proofs.Packing.{take-bytes, drop-bytes}
 use Rattle.rules.specs.declared.profile.Profile.{Profile}
 use Rattle.rules.specs.State.{State}
-use Rattle.rules.specs.Request.{Request, no}
+use Rattle.rules.specs.Request.{Request}
 use Rattle.rules.specs.Readable.{readable}
 use Rattle.rules.specs.Step.{applyAll, after}
 use Rattle.rules.proofs.Kept.{step-valid}

@@ -2,3 +2,4 @@ pub mod Lines
 pub mod Places
 pub mod Stream
 pub mod Demanded
+pub mod CuratorSheet
