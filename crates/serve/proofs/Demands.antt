@@ -2,7 +2,8 @@
 -- record, `Many` of a stream at hand, `Served` of a file, `Freshened` of a fresh store; `Came` is an input that comes in any pieces, through any
 -- buffers. `before` and `after` are the bytes of the lent store, `full` is document 01's store. docs/RULES.md lists the definitions to believe.
 -- Assumes nothing.
-use Prim.Native.Nat.{ℕ, suc, _≤_}
+use Prim.Native.Nat.{ℕ, _≤_, _<_}
+use native.Mathlib.Omega.{arith}
 use mathlib.Core.Path.{_≡_, refl, sym, _∙_, ap, subst}
 use mathlib.Core.Bool.{Bool, true, false, cond, true≢false}
 use mathlib.Core.List.{List, [], _∷_, _++_, map}
@@ -26,13 +27,18 @@ use Rattle.rules.specs.Demand.{Demand3}
 use Rattle.laid.specs.Store.{Store, Stored}
 use Rattle.sound.specs.Fresh.{Freshened}
 use Rattle.operations.specs.Told.{outcomeOf}
+use Rattle.requests.specs.declared.entry.Halt.the-variants.{Full, Waiting, Stopped, Unsound}
 use Rattle.requests.specs.declared.entry.Ran.{Ran}
+use Rattle.requests.specs.Lines.{rowMost}
 use Rattle.requests.specs.Demanded.{linesFor}
 use Rattle.requests.specs.Stream.{wholeOf, Lent, recordsIn, stateOf, Many}
+use Rattle.serve.specs.declared.flow.Flow.{Flow}
+use Rattle.serve.specs.declared.flow.Turn.{Turn}
 use Rattle.serve.specs.declared.End.the-variants.{Whole}
 use Rattle.serve.specs.declared.Report.{Report}
-use Rattle.serve.specs.Course.{Standing, start, left, textLeft, Came, Course, Served}
-use Rattle.serve.specs.Demanded.{Safe, Calls, Spares}
+use Rattle.serve.specs.Flow.{started, Turned}
+use Rattle.serve.specs.Course.{Standing, start, standing, recordMost, left, textLeft, Came, Course, Served}
+use Rattle.serve.specs.Demanded.{Safe, Calls, Doing, Doings, Spares}
 use Rattle.rules.proofs.Afterwards.{unchanged, refused-whole, insert-stops, update-stops, update-kept}
 use Rattle.rules.proofs.Demand.{demand-sound}
 use Rattle.rules.proofs.Frame.{untouched}
@@ -40,9 +46,12 @@ use Rattle.rules.proofs.Valid.{Valid, valid-laid}
 use Rattle.sound.proofs.Lengths.{right-is}
 use Rattle.rules.proofs.Whole.{sound-is, image-parse, fresh-sound, parse-image}
 use Rattle.rules.proofs.Widths.{full-known}
+use Rattle.requests.proofs.Lending.{full-coded, sound-store}
 use Rattle.requests.proofs.Entries.{lines-for, unsound-refused, sound-answered}
 use Rattle.requests.proofs.Validity.{whole-readable, outcome-valid, valid-sound}
 use Rattle.serve.proofs.Coming.{all-text, all-bytes}
+use Rattle.serve.proofs.Doing.{came-doings}
+use Rattle.serve.proofs.Resting.{answering-start, rested-waiting, rested-stopped}
 use Rattle.serve.proofs.Serving.{store-sound}
 
 -- ==== DEMAND 1: any request bytes, any lent store: the store stays sound or stays as it was, and each refusal has a stated effect on its bytes
@@ -145,6 +154,22 @@ module _ (before after : List ℕ) (a : Answer) where
             (update-kept full places stands n (map enteredPair qs) (step full places stands (Update n qs)) h (sym (ap (λ (x : Reply). x .gone) (r .answer)) ∙ z)),
       )
 
+-- ---- it ends: each turn writes something, or waits with room for more to be read, or is the last. So nothing but the input decides how many there are
+
+pub each-turn : (R : ℕ) (f : Flow) (before after input kept out done : List ℕ) (t : Turn) → Store full R before → f .have ≤ length input → rowMost ≤ length out
+    → length kept ≡ length input → length done ≡ length out → Turned full R f before after input kept out done t
+    → (t .ran .halt ≡ Full → 1 ≤ t .ran .written)
+    × (t .ran .halt ≡ Waiting → (f .ended ≡ false) × (t .flow .have < recordMost))
+    × (t .ran .halt ≡ Stopped → (f .ended ≡ true) × (left full (standing after (t .flow) kept) [] ≡ []))
+    × (t .ran .halt ≡ Unsound → ⊥)
+each-turn R f before after input kept out done t b have room same same-out turn =
+    let h = answering-start full R f before input out b have room in (
+      λ e. omega (arith, turn .ran .full e, room),
+      λ e. rested-waiting full R f before input before input out f h after kept done t turn same same-out 0 e .waits refl,
+      λ e. rested-stopped full R f before input before input out f h after kept done t turn same same-out 0 e .stops refl,
+      turn .ran .tested,
+    )
+
 -- ==== DEMAND 2: it answers and stores what the rules say, for every input
 
 -- one record over a sound store: the answer, and every byte
@@ -173,6 +198,31 @@ demand-2-front R ended before input y wrote more c e = (
   sym (lines-for R (parse full R before) (recordsIn full (input ++ more) true)) ∙ c .text more e,
   c .store .bytes ∙ ap (image full R) (c .state more e),
 )
+
+-- reads and turns as the program takes them, in any order and over any two buffers at each turn, to the end of the input
+pub demand-2-pieces : (before : List ℕ) → sound full before ≡ true
+    → let R = placesOf full before in
+    (ds : List Doing) (buffer read wrote after kept : List ℕ) (g : Flow) → Doings R ds started before buffer read wrote g after kept
+    → g .ended ≡ true → left full (standing after g kept) [] ≡ []
+    → (wrote ≡ linesFor R (parse full R before) (recordsIn full read true)) × (after ≡ image full R (stateOf full R (parse full R before) (recordsIn full read true)))
+demand-2-pieces before h ds buffer read wrote after kept g d e n =
+    let R : ℕ = placesOf full before in
+    demand-2-whole R before read (standing after g kept) wrote
+    (subst (λ (b : Bool). Came full R b (start before) read (standing after g kept) wrote) e
+    (came-doings R ds started g before buffer read wrote after kept (sound-store full full-coded R before refl h) d))
+    n
+
+-- and at any moment before it
+pub demand-2-moment : (before : List ℕ) → sound full before ≡ true
+    → let R = placesOf full before in
+    (ds : List Doing) (buffer read wrote after kept more : List ℕ) (g : Flow) → Doings R ds started before buffer read wrote g after kept → (g .ended ≡ true → more ≡ [])
+    → (rest : List ℕ) × (k : ℕ) × (linesFor R (parse full R before) (recordsIn full (read ++ more) true) ≡ wrote ++ rest)
+    × (after ≡ image full R (stateOf full R (parse full R before) (take k (recordsIn full (read ++ more) true))))
+demand-2-moment before h ds buffer read wrote after kept more g d e =
+    let R : ℕ = placesOf full before in
+    let c = came-doings R ds started g before buffer read wrote after kept (sound-store full full-coded R before refl h) d in
+    let f = demand-2-front R (g .ended) before read (standing after g kept) wrote more c e in
+    (f .0, c .count, f .1, f .2)
 
 -- a file that was read to its end
 pub demand-2-file : (R : ℕ) (before after : List ℕ) (r : Report) (c : Course full R before after true r) → r .end ≡ Whole
