@@ -1,4 +1,4 @@
-"""The built programs, run as the toolchain runs them."""
+"""The built programs, run as the toolchain runs them: those of target/bin, or of the folder that SELUVAMA_PROGRAMS names."""
 
 import os
 import platform
@@ -17,7 +17,8 @@ def command(name):
     emulator = os.path.join(tools, "bin", "qemu-x86_64")
     words = [emulator] if os.access(emulator, os.X_OK) else []
     library = os.path.join(tools, "lib")
-    return words + [os.path.join(library, "ld-linux-x86-64.so.2"), "--library-path", library, os.path.join(ROOT, "target", "bin", name)]
+    folder = os.path.abspath(os.environ.get("SELUVAMA_PROGRAMS") or os.path.join(ROOT, "target", "bin"))
+    return words + [os.path.join(library, "ld-linux-x86-64.so.2"), "--library-path", library, os.path.join(folder, name)]
 
 
 def kiosk(source):
@@ -44,11 +45,17 @@ def kiosk_in_pieces(source, size):
 
 
 def lent(store, source, folder):
-    """The lines of records over a lent store, and its bytes afterwards."""
+    """The lines of records over a lent store, and its bytes afterwards: those it had where it is refused, for which no third file is written."""
     names = [os.path.join(folder, name) for name in ("store", "records", "after")]
     for name, data in zip(names, (store, source)):
         with open(name, "wb") as f:
             f.write(data)
-    done = subprocess.run(command("lent") + names, stdout=subprocess.PIPE, check=True, timeout=600)
+    if os.path.exists(names[2]):
+        os.remove(names[2])
+    done = subprocess.run(command("lent") + names, stdout=subprocess.PIPE, stderr=subprocess.PIPE, check=True, timeout=600)
+    if done.stdout == b"no 38 0 0\n" and not os.path.exists(names[2]):
+        return done.stdout, store
+    if done.stderr:
+        raise RuntimeError(done.stderr.decode(errors="replace"))
     with open(names[2], "rb") as f:
         return done.stdout, f.read()
