@@ -45,7 +45,7 @@ def kiosk_in_pieces(source, size):
 
 
 def lent(store, source, folder):
-    """The lines of records over a lent store, and its bytes afterwards: those it had where it is refused, for which no third file is written."""
+    """The lines of records over a lent store, and its bytes afterwards. Where it is refused no third file is written: those it had."""
     names = [os.path.join(folder, name) for name in ("store", "records", "after")]
     for name, data in zip(names, (store, source)):
         with open(name, "wb") as f:

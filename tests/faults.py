@@ -1,6 +1,6 @@
 #!/usr/bin/env python3
-"""Plays faults against the built programs and compares every file's bytes before and after: wrong names, folders, empty, long, unsound and cut files,
-one name for two, full disks, closed pipes, closed standard files, kills.
+"""Plays faults against the built programs and compares every file's bytes before and after: wrong names, folders, empty, long, unsound and
+cut files, one name for two, full disks, closed pipes, closed standard files, kills.
 
   faults.py [KILLS]    so many kills of `lent`, 10 if not said
 

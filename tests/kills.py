@@ -3,9 +3,9 @@
 
   kills.py [ROUNDS [SEED]]    200 rounds and seed 1 if not said; ten rounds share a LOG
 
-In each round records of the oracle's generators go in through a pipe, in pieces of any size, until the program is killed by SIGKILL. Then LOG must hold
-what it held before and a beginning of what was sent, every answer that came must be the model's for the records in LOG, in order, and the program that is
-started again must say what it takes over and cuts off and scan every table as the model does.
+In each round records of the oracle's generators go in through a pipe, in pieces of any size, until the program is killed by SIGKILL. Then
+LOG must hold what it held before and a beginning of what was sent, the answers that came must be the model's for the records in LOG, in
+order, and the program that is started again must say what it takes over and cuts off, and scan every table as the model does.
 """
 
 import random
@@ -36,7 +36,7 @@ class Log:
         self.state, self.data, self.count, self.torn, self.missing = State(70), b"", 0, 0, 0
 
     def add(self, data):
-        """Carries out what was appended, and answers the lines. A torn end is remembered: `torn` bytes to cut off, or `missing` ones to fill in."""
+        """Carries out what was appended, and answers the lines. Of its end is remembered how many bytes are torn, or missing."""
         self.data += data
         at, lines = len(self.data) - len(data), []
         self.torn = self.missing = 0
@@ -77,7 +77,9 @@ def stock(seed):
 
 def load(rng, room, source):
     """Sends the records in pieces until the program is killed, and answers what it wrote."""
-    running = subprocess.Popen(command("kiosk") + ["log"], cwd=room.folder, stdin=subprocess.PIPE, stdout=subprocess.PIPE, stderr=subprocess.PIPE, bufsize=0)
+    moment = rng.random() * LONGEST
+    pipes = {"stdin": subprocess.PIPE, "stdout": subprocess.PIPE, "stderr": subprocess.PIPE}
+    running = subprocess.Popen(command("kiosk") + ["log"], cwd=room.folder, bufsize=0, **pipes)
     told = []
 
     def feed():
@@ -93,22 +95,21 @@ def load(rng, room, source):
     threads = [threading.Thread(target=feed), threading.Thread(target=lambda: told.append(running.stdout.read()))]
     for thread in threads:
         thread.start()
-    time.sleep(random.Random(rng.random()).random() * LONGEST)
+    time.sleep(moment)
     running.kill()
     for thread in threads:
         thread.join()
-    said = running.stderr.read()
     running.wait()
     for pipe in (running.stdin, running.stdout, running.stderr):
         pipe.close()
-    return told[0], said
+    return told[0]
 
 
 def round_of(rng, room, log, source):
     """One kill and one start. Answers what is wrong, how many answers came, and whether LOG's end was to be mended."""
     log.taken_over()
     base = log.data
-    told, _ = load(rng, room, source)
+    told = load(rng, room, source)
     left = room.files().get("log", b"")
     if left[: len(base)] != base or not source.startswith(left[len(base) :]):
         return ["LOG should be what it was and what was sent, is %s" % shown(left)], 0, False

@@ -8,7 +8,7 @@ import threading
 import time
 
 from lent_faults import STORE, judged
-from room import ROOT, Room, command, disk, shown
+from room import EMULATED, ROOT, Room, command, disk, shown
 
 from cases import column, key, name, values  # noqa: E402
 from packed import text  # noqa: E402
@@ -56,11 +56,17 @@ def inputs(tally):
     folder = os.open("/", os.O_RDONLY)
     kiosk(tally, "a folder as standard input", words=(), source=folder, out=b"", undone=UNDONE, says=["standard input: Is a directory"])
     os.close(folder)
-    kiosk(tally, "started without standard input", words=(), source=b"", closed=[0], out=b"", undone=UNDONE, says=["standard input: "])
     for size in (1, 37):
         told = kiosk_in_pieces(SHEET, size)
         tally.add("kiosk: its sheet in pieces of %d bytes" % size, [] if told == LINES else ["wrote %s" % shown(told)])
-    master, slave = pty.openpty()
+
+
+def terminals(tally):
+    try:
+        master, slave = pty.openpty()
+    except OSError:
+        print("--    kiosk: a terminal as standard input: there is none here, left out")
+        return
     os.write(master, b"\4")  # the end of the input, as typed
     kiosk(tally, "a terminal as standard input", words=(), source=slave, out=b"",
           err=b"kiosk: waits for records, which are bytes and no text, from this terminal\n")
@@ -104,13 +110,22 @@ def outputs(tally):
         for how, ignored, status in [("ignored", [signal.SIGPIPE], 0), ("not ignored", [], -signal.SIGPIPE)]:
             end, start = os.pipe()
             os.close(end)
-            kiosk(tally, "standard output is a closed pipe, SIGPIPE %s%s" % (how, title), words=words, stdout=start, ignored=ignored, out=b"",
-                  undone=UNDONE if ignored else None, status=status, changed=changed)
+            kiosk(tally, "standard output is a closed pipe, SIGPIPE %s%s" % (how, title), words=words, stdout=start, ignored=ignored,
+                  out=b"", undone=UNDONE if ignored else None, status=status, changed=changed)
             os.close(start)
-        for closed in ([1], [1, 2], [2]):
-            kiosk(tally, "started without standard files %s%s" % (closed, title), words=words, closed=closed,
-                  out=None, undone=UNDONE if closed == [1] else None, changed=changed)
-        kiosk(tally, "started without any standard file" + title, words=words, closed=[0, 1, 2], out=None, changed={"log": b""} if words else {})
+
+
+def without_standard_files(tally):
+    """No file that is opened may take the number of one that is closed: answers and messages would go into it."""
+    if EMULATED:
+        print("--    kiosk: started without standard files: left out under the emulator")
+        return
+    for words in ((), ("log",)):
+        for closed in ([0], [1], [2], [1, 2], [0, 1, 2]):
+            changed = {"log": b"" if 0 in closed else SHEET} if words else {}
+            kiosk(tally, "started without standard files %s%s" % (closed, ", with LOG" if words else ""), words=words, closed=closed,
+                  source=b"" if 0 in closed else SHEET, out=LINES if closed == [2] else b"",
+                  undone=None if 2 in closed else UNDONE, changed=changed)
 
 
 def usages(tally):
@@ -127,17 +142,19 @@ def taking_over(tally):
     kiosk(tally, "LOG is made in another folder", {"far/x": b""}, ["far/log"], changed={"far/log": SHEET})
     kiosk(tally, "an empty LOG", {"log": b""}, changed={"log": SHEET})
     count = len(list(records(SHEET)))
-    kiosk(tally, "LOG is taken over", {"log": SHEET}, source=SCANS, out=LATER, changed={"log": SHEET + SCANS}, err=taken_over(count, len(SHEET)))
-    kiosk(tally, "LOG is taken over, nothing comes in", {"log": SHEET}, source=b"", out=b"", err=taken_over(count, len(SHEET)))
+    told = taken_over(count, len(SHEET))
+    kiosk(tally, "LOG is taken over", {"log": SHEET}, source=SCANS, out=LATER, changed={"log": SHEET + SCANS}, err=told)
+    kiosk(tally, "LOG is taken over, nothing comes in", {"log": SHEET}, source=b"", out=b"", err=told)
     broken = b"\0\2\2\1" + b"\0\0" + b"\0\2\1\0"
-    kiosk(tally, "LOG begins with broken records", {"log": broken + SHEET}, source=SCANS, out=LATER, changed={"log": broken + SHEET + SCANS},
-          err=taken_over(count + 3, len(SHEET) + len(broken)))
+    kiosk(tally, "LOG begins with broken records", {"log": broken + SHEET}, source=SCANS, out=LATER,
+          changed={"log": broken + SHEET + SCANS}, err=taken_over(count + 3, len(SHEET) + len(broken)))
     kiosk(tally, "the input ends in a record", {"log": SHEET}, source=SCANS + b"\0\x20\1", out=LATER + b"no 1 0 0\n",
-          changed={"log": SHEET + SCANS + b"\0\x20\1"}, err=taken_over(count, len(SHEET)))
+          changed={"log": SHEET + SCANS + b"\0\x20\1"}, err=told)
     for given, size in [(b"", 4097), (b"x" * 10, 4097), (b"x" * 65534, 65535), (b"", 1)]:
         over, missing = size.to_bytes(2, "big") + given, size - len(given)
-        kiosk(tally, "LOG ends in a record of bad length, %d, %d bytes of it there" % (size, len(given)), {"log": SHEET + over}, source=SCANS,
-              out=LATER, changed={"log": SHEET + over + bytes(missing) + SCANS}, err=taken_over(count + 1, len(SHEET + over), missing=missing))
+        kiosk(tally, "LOG ends in a record of bad length, %d, %d bytes of it there" % (size, len(given)), {"log": SHEET + over},
+              source=SCANS, out=LATER, changed={"log": SHEET + over + bytes(missing) + SCANS},
+              err=taken_over(count + 1, len(SHEET + over), missing=missing))
     kiosk(tally, "LOG ends with a record of bad length", {"log": SHEET + b"\0\1x"}, source=SCANS, out=LATER,
           changed={"log": SHEET + b"\0\1x" + SCANS}, err=taken_over(count + 1, len(SHEET) + 3))
 
@@ -166,6 +183,24 @@ def torn_logs(tally):
     tally.add("kiosk: LOG torn at %d places" % (len(SHEET) - 1), wrong[:3])
 
 
+def two_kiosks(tally):
+    """Two that share a LOG by mistake: none writes over what the other appended."""
+    parts = [SHEET, SCANS, record("drop", name("point"), 1), SCANS]
+    with Room() as room:
+        pipes = {"stdin": subprocess.PIPE, "stdout": subprocess.PIPE, "stderr": subprocess.DEVNULL}
+        both = [subprocess.Popen(command("kiosk") + ["log"], cwd=room.folder, bufsize=0, **pipes) for _ in range(2)]
+        for number, part in enumerate(parts):
+            running = both[number % 2]
+            running.stdin.write(part)
+            for _ in records(part):
+                while running.stdout.readline()[:3] not in (b"ok ", b"no ", b""):
+                    pass
+        for running in both:
+            running.communicate()
+        left = room.files().get("log")
+        tally.add("kiosk: two with one LOG", [] if left == b"".join(parts) else ["LOG should hold all records, is %s" % shown(left)])
+
+
 def no_logs(tally):
     """A file that is no log is left as it is, whatever its length."""
     largest = b"\0\x30\xd8\xbc" + bytes(50000)
@@ -179,7 +214,8 @@ def no_logs(tally):
         ("4,097 zeros", bytes(4097)),
         ("200,000 zeros and a record", bytes(200000) + SHEET),
     ]:
-        kiosk(tally, title + " as LOG", {"log": data}, out=b"", undone="kiosk: not done: log is as it was", says=["log: this is no log of a kiosk"])
+        kiosk(tally, title + " as LOG", {"log": data}, out=b"", undone="kiosk: not done: log is as it was",
+              says=["log: this is no log of a kiosk"])
     kiosk(tally, "a folder as LOG", {"log": "dir"}, out=b"", undone=UNDONE, says=["log: Is a directory"])
     kiosk(tally, "a named pipe as LOG", {"log": "pipe"}, out=b"", undone=UNDONE, says=["log: this is no plain file"])
     kiosk(tally, "a device as LOG", words=["/dev/full"], out=b"", undone=UNDONE, says=["/dev/full: this is no plain file"])
@@ -220,5 +256,7 @@ def full_disks(tally):
 
 
 def play(tally):
-    for part in (inputs, long_answers, outputs, usages, taking_over, torn_logs, no_logs, full_disks):
+    for part in (inputs, terminals, long_answers, outputs, without_standard_files, usages):
+        part(tally)
+    for part in (taking_over, torn_logs, two_kiosks, no_logs, full_disks):
         part(tally)

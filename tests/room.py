@@ -16,6 +16,7 @@ sys.path.insert(0, os.path.join(ROOT, "oracle"))
 from programs import command  # noqa: E402
 
 PATIENCE = 20  # seconds; a program that waits longer has failed
+EMULATED = len(command("")) > 4  # the emulator takes the numbers of standard files that are closed
 
 
 class Said:
@@ -43,8 +44,8 @@ class Room:
         return os.path.join(self.folder, name)
 
     def put(self, files):
-        """Makes files with these bytes; for `dir` a folder, for `pipe` a named pipe, for `link to X` a link, for `device` one like /dev/null, or a pipe
-        where none may be made."""
+        """Makes files with these bytes; for `dir` a folder, for `pipe` a named pipe, for `link to X` a link, for `device` one like
+        /dev/null, or a pipe where no device may be made."""
         for name, data in files.items():
             os.makedirs(os.path.dirname(self.path(name)), exist_ok=True)
             path = self.path(name)
@@ -79,7 +80,8 @@ class Room:
         return found
 
     def run(self, program, words, stdin=b"", stdout=None, ignored=(), closed=(), limit=None):
-        """Runs a program here. `stdin`: bytes or an open file; `stdout`: an open file; signals ignored; standard files closed; a limit of bytes a file."""
+        """Runs a program here. `stdin`: bytes or an open file; `stdout`: an open file; `ignored`: signals; `closed`: standard files that it
+        is started without; `limit`: so many bytes a file may have."""
 
         def prepare():
             for number in (signal.SIGPIPE, signal.SIGXFSZ):  # Python ignores both; a shell does not

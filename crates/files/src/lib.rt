@@ -13,8 +13,8 @@ pub struct Loaded {
     pub failed: bool,
 }
 
-// Takes the numbers of standard input, output and error where the program was started without them: a file that is opened later would get such a
-// number, and answers or messages would go into it. A folder can be neither read nor written, so whatever uses the number fails and is seen.
+// Takes the numbers of standard input, output and error where the program was started without them: a file that is opened later would get
+// such a number, and answers or messages would go into it. A folder can be neither read nor written, so that a use of the number fails.
 pub fn hold_standard() {
     hold();
     hold();

@@ -7,7 +7,8 @@ use libc::STDERR_FILENO;
 use serve::End;
 use serve::Report;
 
-// Whether a file may be the log of a kiosk: it is empty, or a record begins in it. Any other, a text or a store, is not to be cut or added to.
+// Whether a file may be the log of a kiosk: it is empty, or a record begins in it. Any other, say a text or a store under a wrong name, is
+// neither cut nor added to.
 fn is_log(log: i32, name: &[u8]) -> bool {
     if libc::lseek(log, 0, libc::SEEK_END) == 0 {
         return true;
@@ -168,4 +169,15 @@ pub fn take_over(s: &mut [u8], log: i32, name: &[u8]) -> bool {
         tell(name, report);
     }
     true
+}
+
+// Opens the log once more, to append to it: what a second kiosk appends to the same log is then not written over. Answers -1 once the
+// cause is said.
+pub fn open_end(name: &[u8]) -> i32 {
+    let log = os::open_append(name);
+    if log < 0 || libc::lseek(log, 0, libc::SEEK_END) < 0 {
+        os::fail(name);
+        return -1;
+    }
+    log
 }

@@ -1,7 +1,8 @@
-// Reads records from standard input into a fresh store with 70 row places and writes their lines to standard output. `kiosk LOG` keeps the records: it
-// begins with those that LOG has, and appends what comes in and brings it to the disk before it is carried out and answered.
+// Reads records from standard input into a fresh store with 70 row places and writes their lines to standard output. `kiosk LOG` keeps the
+// records: it begins with those that LOG has, and what comes in is appended and on the disk before it is carried out and answered.
 //
-// Where something was not done, the last line on standard error begins with `kiosk: not done:`, for a script to test.
+// Where something was not done, the last line on standard error begins with `kiosk: not done:`, for a script to test. Where LOG was not
+// empty, a line says what was taken over.
 mod log; // the file that the records are kept in
 mod search; // whether a record begins in a file
 
@@ -43,7 +44,7 @@ fn answer(s: &mut [u8], log: i32, name: &[u8]) {
     }
 }
 
-// Over the records that a log has.
+// Answers over the records that a log has.
 fn answer_with_log(s: &mut [u8], name: &[u8]) {
     let log = log::open(name);
     if log < 0 {
@@ -58,8 +59,18 @@ fn answer_with_log(s: &mut [u8], name: &[u8]) {
         );
         return;
     }
-    answer(s, log, name);
     libc::close(log);
+    let end = log::open_end(name);
+    if end < 0 {
+        say::tell_undone(
+            b"kiosk",
+            name,
+            b" can't be added to, and nothing is answered",
+        );
+        return;
+    }
+    answer(s, end, name);
+    libc::close(end);
 }
 
 fn put_usage(to: i32) {

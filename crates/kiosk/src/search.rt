@@ -54,7 +54,8 @@ fn look(log: i32) -> Seen {
     Seen::Other
 }
 
-// What is found in a file that is searched from its start for what can begin a record. So many broken records as are counted down here begin no log.
+// What is found in a file that is searched from its start for what can begin a record. No log begins with as many broken records as are
+// counted down here.
 pub fn search(log: i32) -> Seen {
     let mut left: usize = 65536;
     while 0 < left {

@@ -105,8 +105,8 @@ fn write(name: &mut [u8], after: &[u8], s: &[u8]) -> usize
     n
 }
 
-// Whether another file may take AFTER's name: none has it, or a file that this user may write and a disk keeps. A link, a device and a pipe stay what
-// they are.
+// Whether another file may take AFTER's name: none has it, or a file that this user may write and a disk keeps. A link, a device and a pipe
+// stay what they are.
 fn may_replace(after: &[u8]) -> bool {
     if path::is_link(after) {
         say::complain(after, b"this is a link; name the file that it stands for");
@@ -128,8 +128,8 @@ fn may_replace(after: &[u8]) -> bool {
     kept
 }
 
-// Tries whether the store can be kept: a new file with as many bytes is made beside AFTER and removed. Answers the folder's descriptor, or -1 once
-// the cause is said.
+// Tries whether the store can be kept: a new file with as many bytes is made beside AFTER and removed again. Answers the folder's
+// descriptor, or -1 once the cause is said.
 pub fn prepare(after: &[u8], s: &[u8]) -> i32 {
     if !may_replace(after) {
         return -1;

@@ -1,7 +1,7 @@
-// Runs files of records over lent stores: `lent STORE RECORDS AFTER` reads the store and the records, writes the lines to standard output, and the
-// store's bytes afterwards take the place of the third file, whole or not at all. More triples of files may follow.
+// Runs files of records over lent stores: `lent STORE RECORDS AFTER` reads the store and the records, writes the lines to standard output,
+// and the store's bytes afterwards take the place of the third file, whole or not at all. More triples of files may follow.
 //
-// Nothing stands on standard error where all went well. Else its last line begins with `lent: not done:` and names AFTER, for a script to test.
+// Nothing is on standard error where all went well. Else its last line begins with `lent: not done:` and names AFTER, for a script to test.
 mod keep; // a file replaced whole
 
 use files::say;
@@ -10,7 +10,7 @@ use libc::STDERR_FILENO;
 use libc::STDOUT_FILENO;
 use serve::End;
 
-// Says why not every record is answered, and answers whether all are. It comes right behind the run, so that errno is still the failing call's.
+// Says why not every record is answered, and answers whether all are. It comes right behind the run: errno is still the failing call's.
 fn is_whole(end: End, store: &[u8], records: &[u8]) -> bool {
     match end {
         End::Whole => {
@@ -69,8 +69,8 @@ fn take(fd: i32, s: &mut [u8], store: &[u8], records: &[u8], after: &[u8]) -> Ke
     answer(&mut s[0..n], store, records, after)
 }
 
-// The same in a room with a byte more than the largest store has, so that a longer file is no store either. Its type says its length: of a new array
-// lent as a slice the prover would count the zeros, for which it lacks the stack.
+// The same in a room with a byte more than the largest store has, so that a longer file is no store either. Its type says its length: of a
+// new array lent as a slice the prover would count the zeros, for which it lacks the stack.
 fn lend(fd: i32, room: &mut [u8; 3201213], store: &[u8], records: &[u8], after: &[u8]) -> Kept {
     take(fd, room, store, records, after)
 }
