@@ -55,7 +55,7 @@ fn open_or_make(name: &[u8]) -> i32 {
         return -1;
     }
     let made = os::create(name);
-    if made < 0 {
+    if made < 0 && os::errno() != libc::EEXIST {
         os::fail(name);
         return -1;
     }
