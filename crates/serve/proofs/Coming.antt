@@ -12,14 +12,18 @@ use Rattle.rules.specs.State.{State}
 use Rattle.rules.specs.Layout.{image, parse}
 use Rattle.rules.specs.Request.{Request}
 use Rattle.laid.specs.Store.{Store}
-use Rattle.requests.specs.Stream.{recordsIn, textOf, stateOf}
-use Rattle.serve.specs.Course.{Standing, left, textLeft, Came}
+use Rattle.requests.specs.Stream.{recordsIn, bytesOf, textOf, stateOf}
+use Rattle.serve.specs.Course.{Standing, ahead, left, textLeft, Came}
+use Rattle.serve.proofs.Pieces.{bytes-zero, bytes-add}
 use Rattle.serve.proofs.Texts.{state-then}
 
 module _ (p : Profile) (R : ℕ) where
   no-state : (st : State) (ws : List (Read Request)) → stateOf p R st (take 0 ws) ≡ st
   unfolding stateOf
   no-state st ws = refl
+
+  behind-none : (s : List ℕ) → s ≡ drop (bytesOf 0 s true) s
+  behind-none s = sym (ap (λ (k : ℕ). drop k s) (bytes-zero s true))
 
   pub came-nowhere : (ended : Bool) (x : Standing) → Store p R (x .store) → Came p R ended x [] x []
   came-nowhere ended x s =
@@ -28,6 +32,7 @@ module _ (p : Profile) (R : ℕ) where
         count = 0;
         few = λ more e. omega arith;
         others = λ more e. refl;
+        place = λ more e. behind-none (ahead x more);
         state = λ more e. sym (no-state (parse p R (x .store)) (left p x more));
         text = λ more e. refl;
       }
@@ -36,14 +41,15 @@ module _ (p : Profile) (R : ℕ) where
   pub came-read : (x : Standing) (piece : List ℕ) → Store p R (x .store)
       → Came p R false x piece (record { store = x .store; hand = x .hand ++ piece; skip = x .skip; lines = x .lines }) []
   came-read x piece s =
-      let same : (more : List ℕ) → left p (record { store = x .store; hand = x .hand ++ piece; skip = x .skip; lines = x .lines }) more ≡ left p x (piece ++ more) =
-      λ more. ap (λ (l : List ℕ). recordsIn p (drop (x .skip) l) true) (append-assoc (x .hand) piece more)
-      in
+      let next : Standing = record { store = x .store; hand = x .hand ++ piece; skip = x .skip; lines = x .lines } in
+      let bytes : (more : List ℕ) → ahead next more ≡ ahead x (piece ++ more) = λ more. ap (drop (x .skip)) (append-assoc (x .hand) piece more) in
+      let same : (more : List ℕ) → left p next more ≡ left p x (piece ++ more) = λ more. ap (λ (l : List ℕ). recordsIn p l true) (bytes more) in
       record {
         store = s;
         count = 0;
         few = λ more e. omega arith;
         others = λ more e. same more;
+        place = λ more e. bytes more ∙ behind-none (ahead x (piece ++ more));
         state = λ more e. sym (no-state (parse p R (x .store)) (left p x (piece ++ more)));
         text = λ more e. sym (ap (λ (ws : List (Read Request)). textOf p R (parse p R (x .store)) ws (x .lines)) (same more));
       }
@@ -71,6 +77,16 @@ module _ (p : Profile) (R : ℕ) where
           ∙ drop-drop (k .count) (h .count) all
           ∙ ap (drop (h .count + k .count)) (sym whole)
 
+      then-place : ahead z more ≡ drop (bytesOf (h .count + k .count) (ahead x ((a ++ b) ++ more)) true) (ahead x ((a ++ b) ++ more))
+      then-place =
+          let s : List ℕ = ahead x (a ++ rest) in
+          let n : ℕ = bytesOf (h .count) s true in
+          k .place more e
+          ∙ ap (λ (l : List ℕ). drop (bytesOf (k .count) l true) l) (h .place rest none)
+          ∙ drop-drop (bytesOf (k .count) (drop n s) true) n s
+          ∙ ap (λ (j : ℕ). drop j s) (sym (bytes-add (h .count) (k .count) s true))
+          ∙ ap (λ (l : List ℕ). drop (bytesOf (h .count + k .count) (ahead x l) true) (ahead x l)) (sym (append-assoc a b more))
+
       then-few : h .count + k .count ≤ length (left p x ((a ++ b) ++ more))
       then-few =
           let l : k .count ≤ length all - h .count = rw (← length-drop (h .count) all, ← h .others rest none) (k .few more e) in
@@ -93,7 +109,16 @@ module _ (p : Profile) (R : ℕ) where
           ∙ sym (append-assoc v w (textLeft p R z more))
 
     pub came-then : Came p R e₂ x (a ++ b) z (v ++ w)
-    came-then = record { store = k .store; count = h .count + k .count; few = then-few; others = then-others; state = then-state; text = then-text }
+    came-then =
+        record {
+          store = k .store;
+          count = h .count + k .count;
+          few = then-few;
+          others = then-others;
+          place = then-place;
+          state = then-state;
+          text = then-text;
+        }
 
   -- ---- to the end of the input: all of its text is written, and every record of it is carried out
 

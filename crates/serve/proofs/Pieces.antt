@@ -61,9 +61,54 @@ bytes-first : (s : List ℕ) (ended : Bool) (f : Framed) → f ≡ framed s ende
 unfolding bytesOf
 bytes-first s ended f e n = ap (λ (x : Framed). inBytes s x (λ k. bytesOf n (drop k s) ended)) (sym e)
 
-bytes-zero : (s : List ℕ) (ended : Bool) → bytesOf 0 s ended ≡ 0
+pub bytes-zero : (s : List ℕ) (ended : Bool) → bytesOf 0 s ended ≡ 0
 unfolding bytesOf
 bytes-zero s ended = refl
+
+-- ---- the bytes of n records and of m behind them
+
+abbrev Added : ℕ → ℕ → List ℕ → Bool → Type 0
+Added n m s ended = bytesOf (n + m) s ended ≡ bytesOf n s ended + bytesOf m (drop (bytesOf n s ended) s) ended
+
+bytes-nowhere : (m : ℕ) (ended : Bool) → bytesOf m [] ended ≡ 0
+unfolding bytesOf framed
+bytes-nowhere zero ended = refl
+bytes-nowhere (suc m) true = refl
+bytes-nowhere (suc m) false = refl
+
+-- where no record comes first, none takes a byte
+bytes-none : (m : ℕ) (s : List ℕ) (ended : Bool) → ((n : ℕ) → bytesOf (suc n) s ended ≡ 0) → bytesOf m s ended ≡ 0
+bytes-none zero s ended h = bytes-zero s ended
+bytes-none (suc m) s ended h = h m
+
+added-behind : (n m k : ℕ) (s : List ℕ) (ended : Bool) → Added n m (drop k s) ended
+    → k + bytesOf (n + m) (drop k s) ended ≡ k + bytesOf n (drop k s) ended + bytesOf m (drop (k + bytesOf n (drop k s) ended) s) ended
+added-behind n m k s ended ih =
+    let b : ℕ = bytesOf n (drop k s) ended in
+    let d : bytesOf m (drop b (drop k s)) ended ≡ bytesOf m (drop (k + b) s) ended = ap (λ (t : List ℕ). bytesOf m t ended) (drop-drop b k s) in
+    omega (arith, ih, d)
+
+added-by : (n m : ℕ) (s : List ℕ) (ended : Bool) (f : Framed) → ((j : ℕ) → bytesOf (suc j) s ended ≡ inBytes s f (λ k. bytesOf j (drop k s) ended))
+    → ((k : ℕ) → Added n m (drop k s) ended)
+    → inBytes s f (λ k. bytesOf (n + m) (drop k s) ended)
+    ≡ inBytes s f (λ k. bytesOf n (drop k s) ended) + bytesOf m (drop (inBytes s f (λ k. bytesOf n (drop k s) ended)) s) ended
+added-by n m s ended (Whole k) own ih = added-behind n m k s ended (ih k)
+added-by n m s ended (Skip k) own ih = added-behind n m k s ended (ih k)
+added-by n m s ended More own ih = omega (arith, bytes-none m s ended own)
+added-by n m s ended Cut own ih =
+    let z : bytesOf m (drop (length s) s) ended ≡ 0 = ap (λ (t : List ℕ). bytesOf m t ended) (drop-length s) ∙ bytes-nowhere m ended in
+    omega (arith, z)
+added-by n m s ended Done own ih = omega (arith, bytes-none m s ended own)
+
+pub bytes-add : (n m : ℕ) (s : List ℕ) (ended : Bool) → Added n m s ended
+unfolding bytesOf
+bytes-add zero m s ended =
+    let e : 0 + m ≡ m = omega arith in
+    let z : bytesOf m s ended ≡ 0 + bytesOf m s ended = omega arith in
+    ap (λ (j : ℕ). bytesOf j s ended) e ∙ z
+bytes-add (suc n) m s ended =
+    let e : suc n + m ≡ suc (n + m) = omega arith in
+    ap (λ (j : ℕ). bytesOf j s ended) e ∙ added-by n m s ended (framed s ended) (λ j. refl) (λ k. bytes-add n m (drop k s) ended)
 
 module _ (p : Profile) where
   pub no-records : (ended : Bool) → recordsIn p [] ended ≡ []
@@ -96,11 +141,16 @@ module _ (p : Profile) where
         ∙ h
         ∙ ap (λ (s : List ℕ). take n (recordsIn p (drop k a) false) ++ recordsIn p s true) (ap (drop b) (sym d) ∙ drop-drop b k (a ++ more))
 
+    -- past the end there is no record
+    none-past : (n k : ℕ) (a : List ℕ) → length a ≤ k → n ≤ length (recordsIn p (drop k a) false) → n ≡ 0
+    none-past n k a l few =
+        let r : recordsIn p (drop k a) false ≡ [] = ap (λ (s : List ℕ). recordsIn p s false) (drop-of-length-le a {i = k} l) ∙ no-records false in
+        let q : length (recordsIn p (drop k a) false) ≡ 0 = ap length r in
+        omega (arith, few)
+
     behind-none : (n k : ℕ) (a : List ℕ) → length a < k → n ≤ length (recordsIn p (drop k a) false) → Behind n k a
     behind-none n k a l few =
-        let e : drop k a ≡ [] = drop-of-length-le a {i = k} (omega arith) in
-        let r : recordsIn p (drop k a) false ≡ [] = ap (λ (s : List ℕ). recordsIn p s false) e ∙ no-records false in
-        let z : n ≡ 0 = let q : length (recordsIn p (drop k a) false) ≡ 0 = ap length r in omega (arith, few) in
+        let z : n ≡ 0 = none-past n k a (omega arith) few in
         let t : take n (recordsIn p (drop k a) false) ≡ [] = ap (λ (j : ℕ). take j (recordsIn p (drop k a) false)) z in
         let b : k + bytesOf n (drop k a) false ≡ k = let y : bytesOf n (drop k a) false ≡ 0 = ap (λ (j : ℕ). bytesOf j (drop k a) false) z ∙ bytes-zero (drop k a) false in omega arith in
         sym (ap (λ (ws : List (Read Request)). ws ++ recordsIn p (drop (k + bytesOf n (drop k a) false) (a ++ more)) true) t
@@ -153,6 +203,41 @@ module _ (p : Profile) where
     pub split : (n : ℕ) (a : List ℕ) → n ≤ length (recordsIn p a false) → Split n a
     split zero a few = split-none a
     split (suc n) a few = split-by n a (framed a false) refl (same-frame a more) (moves a false) few (λ k less. split n (drop k a) less)
+
+    -- ---- and they take as many bytes
+
+    abbrev SameBytes : ℕ → List ℕ → Type 0
+    SameBytes n a = bytesOf n (a ++ more) true ≡ bytesOf n a false
+
+    bytes-behind : (n k : ℕ) (a : List ℕ) → n ≤ length (recordsIn p (drop k a) false) → SameBytes n (drop k a)
+        → bytesOf n (drop k (a ++ more)) true ≡ bytesOf n (drop k a) false
+    bytes-behind n k a few h = go (leb k (length a)) refl
+      where
+        go : (b : Bool) → leb k (length a) ≡ b → bytesOf n (drop k (a ++ more)) true ≡ bytesOf n (drop k a) false
+        go true e = ap (λ (s : List ℕ). bytesOf n s true) (drop-append-le k a more (leb-true k (length a) e)) ∙ h
+        go false e =
+            let l = leb-false k (length a) e in
+            let z : n ≡ 0 = none-past n k a (omega arith) few in
+            ap (λ (j : ℕ). bytesOf j (drop k (a ++ more)) true) z
+            ∙ bytes-zero (drop k (a ++ more)) true
+            ∙ sym (ap (λ (j : ℕ). bytesOf j (drop k a) false) z ∙ bytes-zero (drop k a) false)
+
+    bytes-by : (n : ℕ) (a : List ℕ) (f : Framed) → f ≡ framed a false → Same (framed (a ++ more) true) f → suc n ≤ length (recordsIn p a false)
+        → ((k : ℕ) → n ≤ length (recordsIn p (drop k a) false) → SameBytes n (drop k a))
+        → SameBytes (suc n) a
+    bytes-by n a (Whole k) e g few ih =
+        let less = few-behind n _ (recordsIn p a false) (recordsIn p (drop k a) false) (records-by p a false (Whole k) e) few in
+        bytes-first (a ++ more) true (Whole k) g n ∙ ap (λ (j : ℕ). k + j) (bytes-behind n k a less (ih k less)) ∙ sym (bytes-first a false (Whole k) e n)
+    bytes-by n a (Skip k) e g few ih =
+        let less = few-behind n _ (recordsIn p a false) (recordsIn p (drop k a) false) (records-by p a false (Skip k) e) few in
+        bytes-first (a ++ more) true (Skip k) g n ∙ ap (λ (j : ℕ). k + j) (bytes-behind n k a less (ih k less)) ∙ sym (bytes-first a false (Skip k) e n)
+    bytes-by n a More e g few ih = absurd (none-few n (recordsIn p a false) (records-by p a false More e) few)
+    bytes-by n a Cut e g few ih = absurd g
+    bytes-by n a Done e g few ih = absurd g
+
+    pub same-bytes : (n : ℕ) (a : List ℕ) → n ≤ length (recordsIn p a false) → SameBytes n a
+    same-bytes zero a few = bytes-zero (a ++ more) true ∙ sym (bytes-zero a false)
+    same-bytes (suc n) a few = bytes-by n a (framed a false) refl (same-frame a more) few (λ k less. same-bytes n (drop k a) less)
 
   -- ---- the whole of what is at hand
 

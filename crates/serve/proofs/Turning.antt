@@ -19,9 +19,9 @@ use Rattle.requests.specs.Stream.{recordsIn, bytesOf, textOf, stateOf, Runs}
 use Rattle.serve.specs.declared.flow.Flow.{Flow}
 use Rattle.serve.specs.declared.flow.Turn.{Turn}
 use Rattle.serve.specs.Flow.{hand, Turned}
-use Rattle.serve.specs.Course.{Standing, standing, left, textLeft, Came}
+use Rattle.serve.specs.Course.{Standing, standing, ahead, left, textLeft, Came}
 use Rattle.serve.proofs.Hand.{none-taken}
-use Rattle.serve.proofs.Pieces.{no-records, split, all-held, passed-on}
+use Rattle.serve.proofs.Pieces.{no-records, split, same-bytes, bytes-zero, all-held, passed-on}
 use Rattle.serve.proofs.Texts.{text-onward}
 
 -- the text of the records at hand
@@ -60,6 +60,21 @@ module _ (p : Profile) (R : ℕ) (a : List ℕ) (i : ℕ) (before after out done
         ap (λ (k : ℕ). drop k (drop (r .taken) a ++ more)) (run .over)
         ∙ ap (λ (k : ℕ). drop (bytesOf n a ended - length a) (drop k a ++ more)) (run .passed)
         ∙ passed-on (bytesOf n a ended) a more
+
+    -- whether or not more may follow, the records that are answered take as many bytes
+    bytes-held : (more : List ℕ) → (ended ≡ true → more ≡ []) → bytesOf n (a ++ more) true ≡ bytesOf n a ended
+    bytes-held more e = go ended refl
+      where
+        go : (b : Bool) → ended ≡ b → bytesOf n (a ++ more) true ≡ bytesOf n a ended
+        go true t =
+            ap (λ (l : List ℕ). bytesOf n (a ++ l) true) (e t)
+            ∙ ap (λ (l : List ℕ). bytesOf n l true) (append-nil a)
+            ∙ ap (bytesOf n a) (sym t)
+        go false t =
+            same-bytes p more n a (subst (λ (b : Bool). n ≤ length (recordsIn p a b)) t (run .few)) ∙ ap (bytesOf n a) (sym t)
+
+    pub place-behind : (more : List ℕ) → (ended ≡ true → more ≡ []) → behind more ≡ drop (bytesOf n (a ++ more) true) (a ++ more)
+    place-behind more e = behind-is more ∙ ap (λ (k : ℕ). drop k (a ++ more)) (sym (bytes-held more e))
 
     lines-then : drop n held ≡ [] → r .lines ≡ cond (isNil (take n held)) i 0
     lines-then e = run .next e ∙ ap (λ (b : Bool). cond b i 0) (sym (none-taken n held (run .few)))
@@ -188,10 +203,13 @@ module _ (p : Profile) (R : ℕ) (f : Flow) (before after input kept out done : 
   left-now : (more : List ℕ) → left p x more ≡ recordsIn p (drop d (a ++ more)) true
   left-now more = ap (λ (l : List ℕ). recordsIn p l true) (skipped more)
 
+  ahead-then : (more : List ℕ) → ahead y more ≡ drop (cond (eqb d 0) (r .skip) d) (drop (r .taken) a ++ more)
+  ahead-then more =
+      ap (λ (k : ℕ). drop k (hand (t .flow) kept ++ more)) (turn .skip)
+      ∙ ap (λ (l : List ℕ). drop (cond (eqb d 0) (r .skip) d) (l ++ more)) (turn .hand)
+
   left-then : (more : List ℕ) → left p y more ≡ recordsIn p (drop (cond (eqb d 0) (r .skip) d) (drop (r .taken) a ++ more)) true
-  left-then more =
-      ap (λ (k : ℕ). recordsIn p (drop k (hand (t .flow) kept ++ more)) true) (turn .skip)
-      ∙ ap (λ (l : List ℕ). recordsIn p (drop (cond (eqb d 0) (r .skip) d) (l ++ more)) true) (turn .hand)
+  left-then more = ap (λ (l : List ℕ). recordsIn p l true) (ahead-then more)
 
   -- where more is to be passed over than is at hand, the run was over nothing
   module _ (far : d ≡ 0 → ⊥) where
@@ -231,14 +249,16 @@ module _ (p : Profile) (R : ℕ) (f : Flow) (before after input kept out done : 
         ∙ ap (λ (l : List (Read Request)). textOf p R (parse p R before) l (f .lines)) none-held
         ∙ no-text (parse p R before) (f .lines)
 
+    same-ahead : (more : List ℕ) → ahead y more ≡ ahead x more
+    same-ahead more =
+        ahead-then more
+        ∙ ap (λ (b : Bool). drop (cond b (r .skip) d) (drop (r .taken) a ++ more)) (ne-eqb d 0 far)
+        ∙ ap (λ (l : List ℕ). drop d (l ++ more)) (none-behind ∙ sym nothing)
+        ∙ sym (skipped more)
+
     passing : (more : List ℕ) → Onward p R (f .lines) before after done r held-now (left p x more) (left p y more)
     passing more =
-        let same : left p y more ≡ left p x more =
-        left-then more
-        ∙ ap (λ (b : Bool). recordsIn p (drop (cond b (r .skip) d) (drop (r .taken) a ++ more)) true) (ne-eqb d 0 far)
-        ∙ ap (λ (l : List ℕ). recordsIn p (drop d (l ++ more)) true) (none-behind ∙ sym nothing)
-        ∙ sym (left-now more)
-        in
+        let same : left p y more ≡ left p x more = ap (λ (l : List ℕ). recordsIn p l true) (same-ahead more) in
         record {
           few = omega (arith, none-counted);
           others = same ∙ ap (λ (k : ℕ). drop k (left p x more)) (sym none-counted);
@@ -262,6 +282,20 @@ module _ (p : Profile) (R : ℕ) (f : Flow) (before after input kept out done : 
       (subst (λ (ws : List (Read Request)). Onward p R (f .lines) before after done r held-now (recordsIn p (a ++ more) true) ws) (sym m)
       (goes-on p R a (f .lines) before after out done r (f .ended) (turn .ran) more h))
 
+  turn-place : (b : Bool) → eqb d 0 ≡ b → (more : List ℕ) → (f .ended ≡ true → more ≡ [])
+      → ahead y more ≡ drop (bytesOf (r .count) (ahead x more) true) (ahead x more)
+  turn-place false e more h =
+      let far = eqb-false d 0 e in
+      same-ahead far more
+      ∙ sym (ap (λ (k : ℕ). drop (bytesOf k (ahead x more) true) (ahead x more)) (none-counted far)
+      ∙ ap (λ (k : ℕ). drop k (ahead x more)) (bytes-zero (ahead x more) true))
+  turn-place true e more h =
+      let s : ahead x more ≡ a ++ more = skipped more ∙ ap (λ (k : ℕ). drop k (a ++ more)) (eqb-true d 0 e) in
+      ahead-then more
+      ∙ ap (λ (b : Bool). drop (cond b (r .skip) d) (drop (r .taken) a ++ more)) e
+      ∙ place-behind p R a (f .lines) before after out done r (f .ended) (turn .ran) more h
+      ∙ ap (λ (l : List ℕ). drop (bytesOf (r .count) l true) l) (sym s)
+
   pub came-turn : Came p R (f .ended) x [] y (take (r .written) done)
   came-turn =
       let o : (more : List ℕ) → (f .ended ≡ true → more ≡ []) → Onward p R (f .lines) before after done r held-now (left p x more) (left p y more) =
@@ -272,6 +306,7 @@ module _ (p : Profile) (R : ℕ) (f : Flow) (before after input kept out done : 
         count = r .count;
         few = λ more h. o more h .few;
         others = λ more h. o more h .others;
+        place = turn-place (eqb d 0) refl;
         state = λ more h. turn .ran .state ∙ ap (stateOf p R (parse p R before)) (sym (o more h .first));
         text = λ more h. o more h .text ∙ ap (λ (k : ℕ). take (r .written) done ++ textOf p R (parse p R after) (left p y more) k) (sym (turn .lines));
       }

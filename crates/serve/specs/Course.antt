@@ -14,7 +14,7 @@ use Rattle.rules.specs.Request.{Request}
 use Rattle.rules.specs.Sound.{sound}
 use Rattle.laid.specs.Store.{Store}
 use Rattle.records.specs.Frame.{mostLength}
-use Rattle.requests.specs.Stream.{recordsIn, textOf, stateOf}
+use Rattle.requests.specs.Stream.{recordsIn, bytesOf, textOf, stateOf}
 use Rattle.serve.specs.declared.flow.Flow.{Flow}
 use Rattle.serve.specs.declared.End.the-variants.{Whole, Unsound}
 use Rattle.serve.specs.declared.Pause.the-variants.{Waiting, Stopped}
@@ -41,20 +41,25 @@ standing s f input = record { store = s; hand = hand f input; skip = f .skip; li
 abbrev pub recordMost : ℕ
 recordMost = 2 + mostLength
 
--- the records that are left where `more` is still to be read, and their text
+-- the bytes that are ahead where `more` is still to be read; the records that are left in them, and their text
+abbrev pub ahead : Standing → List ℕ → List ℕ
+ahead x more = drop (x .skip) (x .hand ++ more)
+
 abbrev pub left : Profile → Standing → List ℕ → List (Read Request)
-left p x more = recordsIn p (drop (x .skip) (x .hand ++ more)) true
+left p x more = recordsIn p (ahead x more) true
 
 abbrev pub textLeft : Profile → ℕ → Standing → List ℕ → List ℕ
 textLeft p R x more = textOf p R (parse p R (x .store)) (left p x more) (x .lines)
 
 -- from x, `read` was read and `wrote` written, and y stands: whatever more follows (nothing where the input has ended), `count` records are carried
--- out, the others are left, and the text is what was written and what is left
+-- out, the others are left and stand behind the bytes of the first, and the text is what was written and what is left
 pub record Came (p : Profile) (R : ℕ) (ended : Bool) (x : Standing) (read : List ℕ) (y : Standing) (wrote : List ℕ) : Type 0 where
   pub store : Store p R (y .store)
   pub count : ℕ
   pub few : (more : List ℕ) → (ended ≡ true → more ≡ []) → count ≤ length (left p x (read ++ more))
   pub others : (more : List ℕ) → (ended ≡ true → more ≡ []) → left p y more ≡ drop count (left p x (read ++ more))
+  pub place : (more : List ℕ) → (ended ≡ true → more ≡ [])
+      → ahead y more ≡ drop (bytesOf count (ahead x (read ++ more)) true) (ahead x (read ++ more))
   pub state : (more : List ℕ) → (ended ≡ true → more ≡ [])
       → parse p R (y .store) ≡ stateOf p R (parse p R (x .store)) (take count (left p x (read ++ more)))
   pub text : (more : List ℕ) → (ended ≡ true → more ≡ []) → textLeft p R x (read ++ more) ≡ wrote ++ textLeft p R y more
