@@ -1,5 +1,6 @@
 pub mod Hand
 pub mod Pieces
+pub mod Cutting
 pub mod Texts
 pub mod Coming
 pub mod Turning

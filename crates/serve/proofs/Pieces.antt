@@ -28,7 +28,7 @@ Same g More = Unit {0}
 Same g Cut = ⊥
 Same g Done = ⊥
 
-abbrev tested : Bool → Bool → Bool → ℕ → Bool → Framed
+abbrev pub tested : Bool → Bool → Bool → ℕ → Bool → Framed
 tested low high less k ended = cond low (Skip k) (cond high (Skip k) (cond less (short ended) (Whole k)))
 
 same-tested : (low high less less′ : Bool) (k : ℕ) → (less ≡ false → less′ ≡ false) → Same (tested low high less′ k true) (tested low high less k false)
@@ -38,7 +38,7 @@ same-tested false false true less′ k h = tt
 same-tested false false false true k h = absurd (true≢false (h refl))
 same-tested false false false false k h = refl
 
-framed-two : (s : List ℕ) (ended : Bool) → 2 ≤ length s
+pub framed-two : (s : List ℕ) (ended : Bool) → 2 ≤ length s
     → tested (ltb (lengthOf s) leastLength) (ltb mostLength (lengthOf s)) (ltb (length s) (2 + lengthOf s)) (2 + lengthOf s) ended ≡ framed s ended
 unfolding framed
 framed-two s ended h = simp (ne-eqb (length s) 0 (omega arith), ne-eqb (length s) 1 (omega arith))
@@ -57,7 +57,7 @@ same-frame (x ∷ y ∷ a) more =
 
 -- ---- so the first n records of a piece are the first n of the whole, and the others stand behind the bytes that they took
 
-bytes-first : (s : List ℕ) (ended : Bool) (f : Framed) → f ≡ framed s ended → (n : ℕ) → bytesOf (suc n) s ended ≡ inBytes s f (λ k. bytesOf n (drop k s) ended)
+pub bytes-first : (s : List ℕ) (ended : Bool) (f : Framed) → f ≡ framed s ended → (n : ℕ) → bytesOf (suc n) s ended ≡ inBytes s f (λ k. bytesOf n (drop k s) ended)
 unfolding bytesOf
 bytes-first s ended f e n = ap (λ (x : Framed). inBytes s x (λ k. bytesOf n (drop k s) ended)) (sym e)
 
@@ -110,6 +110,13 @@ bytes-add (suc n) m s ended =
     let e : suc n + m ≡ suc (n + m) = omega arith in
     ap (λ (j : ℕ). bytesOf j s ended) e ∙ added-by n m s ended (framed s ended) (λ j. refl) (λ k. bytes-add n m (drop k s) ended)
 
+-- where more than n are there, a first one is, and n behind it
+pub few-behind : (n : ℕ) (q : Read Request) (ws vs : List (Read Request)) → ws ≡ q ∷ vs → suc n ≤ length ws → n ≤ length vs
+few-behind n q ws vs e l = let z : length ws ≡ suc (length vs) = ap length e in omega arith
+
+pub none-few : (n : ℕ) (ws : List (Read Request)) → ws ≡ [] → suc n ≤ length ws → ⊥
+none-few n ws e l = let z : length ws ≡ 0 = ap length e in absurd (omega arith)
+
 module _ (p : Profile) where
   pub no-records : (ended : Bool) → recordsIn p [] ended ≡ []
   unfolding recordsIn someRecords
@@ -122,7 +129,7 @@ module _ (p : Profile) where
     split-none : (a : List ℕ) → Split 0 a
     split-none a = ap (λ (k : ℕ). recordsIn p (drop k (a ++ more)) true) (sym (bytes-zero a false))
 
-    same-record : (a : List ℕ) (k : ℕ) → 4 ≤ k → k ≤ length a → take (k - 2) (drop 2 (a ++ more)) ≡ take (k - 2) (drop 2 a)
+    pub same-record : (a : List ℕ) (k : ℕ) → 4 ≤ k → k ≤ length a → take (k - 2) (drop 2 (a ++ more)) ≡ take (k - 2) (drop 2 a)
     same-record a k l m =
         ap (take (k - 2)) (drop-append-le 2 a more (omega (arith, l, m)))
         ∙ take-append-le (k - 2) (drop 2 a) more (omega (arith, l, m, length-drop 2 a))
@@ -174,12 +181,6 @@ module _ (p : Profile) where
         ∙ ap (λ (ws : List (Read Request)). q ∷ ws) h
         ∙ ap (λ (j : ℕ). q ∷ (take n (recordsIn p (drop k a) false) ++ recordsIn p (drop j (a ++ more)) true)) (sym b)
         ∙ ap (λ (ws : List (Read Request)). take (suc n) ws ++ recordsIn p (drop (bytesOf (suc n) a false) (a ++ more)) true) (sym r)
-
-    few-behind : (n : ℕ) (q : Read Request) (ws vs : List (Read Request)) → ws ≡ q ∷ vs → suc n ≤ length ws → n ≤ length vs
-    few-behind n q ws vs e l = let z : length ws ≡ suc (length vs) = ap length e in omega arith
-
-    none-few : (n : ℕ) (ws : List (Read Request)) → ws ≡ [] → suc n ≤ length ws → ⊥
-    none-few n ws e l = let z : length ws ≡ 0 = ap length e in absurd (omega arith)
 
     split-by : (n : ℕ) (a : List ℕ) (f : Framed) → f ≡ framed a false → Same (framed (a ++ more) true) f → Moves (length a) f → suc n ≤ length (recordsIn p a false)
         → ((k : ℕ) → n ≤ length (recordsIn p (drop k a) false) → Split n (drop k a))
