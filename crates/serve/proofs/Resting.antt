@@ -28,7 +28,7 @@ use Rattle.serve.specs.declared.Rest.{Rest}
 use Rattle.serve.specs.Flow.{hand, Turned}
 use Rattle.serve.specs.Course.{Standing, standing, left, recordMost, Came, Rested}
 use Rattle.serve.proofs.Coming.{came-nowhere, came-then}
-use Rattle.serve.proofs.Turning.{atHand, came-turn, text-shrinks, left-last}
+use Rattle.serve.proofs.Turning.{atHand, came-turn, turn-passing, text-shrinks, left-last}
 
 -- ---- where no whole record is at hand, fewer bytes are than the longest record has
 
@@ -106,12 +106,17 @@ module _ (p : Profile) (R : ℕ) (f : Flow) (before input : List ℕ) where
     abbrev held : List (Read Request)
     held = recordsIn p (drop (g .skip) (hand g kept)) (g .ended)
 
+    passing : (t .flow .skip ≡ 0 → ⊥) → hand (t .flow) rest ≡ []
+    passing = turn-passing p R g now after kept rest out done t (h .have) turn
+
+    none-held : t .ran .halt ≡ Waiting → recordsIn p (hand (t .flow) rest) false ≡ []
+    none-held e =
+        ap (λ (s : List ℕ). recordsIn p s false) (turn .hand)
+        ∙ subst (λ (b : Bool). recordsIn p (drop (t .ran .taken) (drop (g .skip) (hand g kept))) b ≡ []) (turn .ran .waits e .0) (turn .ran .rest ∙ turn .ran .waits e .1)
+
     short-hand : t .ran .halt ≡ Waiting → t .flow .have < recordMost
     short-hand e =
-        let n : recordsIn p (drop (t .ran .taken) (drop (g .skip) (hand g kept))) false ≡ [] =
-        subst (λ (b : Bool). recordsIn p (drop (t .ran .taken) (drop (g .skip) (hand g kept))) b ≡ []) (turn .ran .waits e .0) (turn .ran .rest ∙ turn .ran .waits e .1)
-        in
-        let l : length (hand (t .flow) rest) < recordMost = subst (λ (s : List ℕ). length s < recordMost) (sym (turn .hand)) (none-whole p _ n) in
+        let l : length (hand (t .flow) rest) < recordMost = none-whole p (hand (t .flow) rest) (none-held e) in
         omega (arith, l, length-take-le (t .flow .have) rest (answering-turn .have))
 
     module _ (records : ℕ) where
@@ -122,6 +127,7 @@ module _ (p : Profile) (R : ℕ) (f : Flow) (before input : List ℕ) where
             came = answering-turn .came;
             ended = answering-turn .ended;
             have = answering-turn .have;
+            passing = passing;
             waits = λ e. let z : _≡_ {A = ℕ} 0 1 = cc in absurd (omega arith);
             stops = λ e. let z : _≡_ {A = ℕ} 0 1 = cc in absurd (omega arith);
           }
@@ -133,7 +139,8 @@ module _ (p : Profile) (R : ℕ) (f : Flow) (before input : List ℕ) where
             came = answering-turn .came;
             ended = answering-turn .ended;
             have = answering-turn .have;
-            waits = λ e. (sym (h .ended) ∙ turn .ran .waits h′ .0, short-hand h′);
+            passing = passing;
+            waits = λ e. (sym (h .ended) ∙ turn .ran .waits h′ .0, short-hand h′, none-held h′);
             stops = λ e. let z : _≡_ {A = ℕ} 0 1 = cc in absurd (omega arith);
           }
 
@@ -144,6 +151,7 @@ module _ (p : Profile) (R : ℕ) (f : Flow) (before input : List ℕ) where
             came = answering-turn .came;
             ended = answering-turn .ended;
             have = answering-turn .have;
+            passing = passing;
             waits = λ e. let z : _≡_ {A = ℕ} 0 1 = cc in absurd (omega arith);
             stops = λ e. (
               sym (h .ended) ∙ turn .ran .stops h′ .0,

@@ -15,6 +15,7 @@ use Rattle.rules.specs.Sound.{sound}
 use Rattle.rules.proofs.Valid.{valid-is, valid-laid}
 use Rattle.rules.proofs.Whole.{sound-image}
 use Rattle.laid.specs.Store.{Store}
+use Rattle.requests.specs.Stream.{recordsIn}
 use Rattle.serve.specs.declared.flow.Flow.{Flow}
 use Rattle.serve.specs.declared.End.{End}
 use Rattle.serve.specs.declared.End.the-variants.{Whole, Unsound}
@@ -26,6 +27,7 @@ use Rattle.serve.specs.declared.Report.{Report}
 use Rattle.serve.specs.Flow.{started, hand, Arrived}
 use Rattle.serve.specs.Course.{Standing, start, standing, left, recordMost, Came, TakenIn, Rested, Course, Served}
 use Rattle.serve.proofs.Hand.{none-taken}
+use Rattle.serve.proofs.Pieces.{no-records}
 use Rattle.serve.proofs.Coming.{came-nowhere, came-read, came-then}
 
 -- ---- what came in stands behind the bytes at hand
@@ -54,10 +56,21 @@ pub record Serving (p : Profile) (R : ℕ) (before now input : List ℕ) (f : Fl
   pub came : Came p R false (start before) read (standing now f input) wrote
   pub waits : f .ended ≡ false
   pub have : f .have < recordMost
+  pub passing : (f .skip ≡ 0 → ⊥) → hand f input ≡ []
+  pub none : recordsIn p (hand f input) false ≡ []
 
 module _ (p : Profile) (R : ℕ) (before : List ℕ) where
   pub serving-start : (input : List ℕ) → Store p R before → Serving p R before before input started
-  serving-start input s = record { read = []; wrote = []; came = came-nowhere p R false (start before) s; waits = refl; have = omega arith }
+  serving-start input s =
+      record {
+        read = [];
+        wrote = [];
+        came = came-nowhere p R false (start before) s;
+        waits = refl;
+        have = omega arith;
+        passing = λ z. refl;
+        none = no-records p false;
+      }
 
   module _ (now input : List ℕ) (f : Flow) (h : Serving p R before now input f) (room : recordMost ≤ length input) where
     -- ---- it ends between two reads
@@ -73,7 +86,10 @@ module _ (p : Profile) (R : ℕ) (before : List ℕ) where
           store = refl;
           torn = t ∙ sym (length-take-le (f .have) input (omega (arith, h .have, room)));
           missing = m;
+          passing = h .passing;
           done = λ e l. absurd (true≢false (sym l ∙ w e));
+          goes-on = λ l. refl;
+          rests = λ e l. h .none;
         }
 
     -- ---- something came in, and what is at hand is answered
@@ -113,10 +129,13 @@ module _ (p : Profile) (R : ℕ) (before : List ℕ) where
             came = subst (λ (b : Bool). Came p R b (start before) ((h .read ++ piece) ++ []) next ((h .wrote ++ []) ++ rest .wrote)) e came-next;
             waits = rest .ended ∙ e;
             have = rest .waits w .1;
+            passing = rest .passing;
+            none = rest .waits w .2;
           }
 
-      pub course-after : (last : Bool) (x : Report) → x .torn ≡ r .flow .have → x .missing ≡ r .flow .skip → (x .end ≡ Whole → r .pause ≡ Stopped) → Course p R before after last x
-      course-after last x torn missing w =
+      -- where more may follow, it goes on only before the end
+      pub course-after : (last : Bool) → (last ≡ false → t .flow .ended ≡ false) → (x : Report) → x .torn ≡ r .flow .have → x .missing ≡ r .flow .skip → (x .end ≡ Whole → r .pause ≡ Stopped) → Course p R before after last x
+      course-after last on x torn missing w =
           record {
             read = (h .read ++ piece) ++ [];
             wrote = (h .wrote ++ []) ++ rest .wrote;
@@ -126,7 +145,10 @@ module _ (p : Profile) (R : ℕ) (before : List ℕ) where
             store = refl;
             torn = torn ∙ sym (length-take-le (r .flow .have) kept (rest .have));
             missing = missing;
+            passing = rest .passing;
             done = λ e l. rest .stops (w e);
+            goes-on = on;
+            rests = λ e l. absurd (true≢false (sym (rest .stops (w e) .0) ∙ on l));
           }
 
 -- ---- the store stays sound

@@ -83,17 +83,18 @@ module _ (p : Profile) (R : ℕ) (a : List ℕ) (i : ℕ) (before after out done
     text-apart : textOf p R st (take n held ++ drop n held) i ≡ wrote ++ textOf p R (stateOf p R st (take n held)) (drop n held) (r .lines)
     text-apart = ap (λ (ws : List (Read Request)). textOf p R st ws i) (take-append-drop n held) ∙ run .text
 
+    -- where bytes are still to be passed over, the run took all that is at hand
+    all-taken : (r .skip ≡ 0 → ⊥) → drop (r .taken) a ≡ []
+    all-taken h = drop-of-length-le a {i = r .taken} (omega (arith, h, run .over, run .passed))
+
     -- what is left of the records at hand
     pub left-held : recordsIn p (drop (r .skip) (drop (r .taken) a)) ended ≡ drop n held
     left-held = go (eqb (r .skip) 0) refl ∙ run .rest
       where
-        none : (r .skip ≡ 0 → ⊥) → drop (r .taken) a ≡ []
-        none h = drop-of-length-le a {i = r .taken} (omega (arith, h, run .over, run .passed))
-
         go : (b : Bool) → eqb (r .skip) 0 ≡ b → recordsIn p (drop (r .skip) (drop (r .taken) a)) ended ≡ recordsIn p (drop (r .taken) a) ended
         go true e = ap (λ (k : ℕ). recordsIn p (drop k (drop (r .taken) a)) ended) (eqb-true (r .skip) 0 e)
         go false e =
-            let z = none (eqb-false (r .skip) 0 e) in
+            let z = all-taken (eqb-false (r .skip) 0 e) in
             ap (λ (l : List ℕ). recordsIn p (drop (r .skip) l) ended) z ∙ ap (λ (l : List ℕ). recordsIn p l ended) (drop-nil (r .skip) ∙ sym z)
 
   -- more may follow
@@ -310,6 +311,14 @@ module _ (p : Profile) (R : ℕ) (f : Flow) (before after input kept out done : 
         state = λ more h. turn .ran .state ∙ ap (stateOf p R (parse p R before)) (sym (o more h .first));
         text = λ more h. o more h .text ∙ ap (λ (k : ℕ). take (r .written) done ++ textOf p R (parse p R after) (left p y more) k) (sym (turn .lines));
       }
+
+  -- where bytes are still to be passed over, none is at hand
+  pub turn-passing : (t .flow .skip ≡ 0 → ⊥) → hand (t .flow) kept ≡ []
+  turn-passing h = turn .hand ∙ go (eqb d 0) refl
+    where
+      go : (b : Bool) → eqb d 0 ≡ b → drop (r .taken) a ≡ []
+      go true e = all-taken p R a (f .lines) before after out done r (f .ended) (turn .ran) (λ z. h (turn .skip ∙ ap (λ (b : Bool). cond b (r .skip) d) e ∙ z))
+      go false e = none-behind (eqb-false d 0 e)
 
   -- ---- what is left of the records at hand, and of their text
 

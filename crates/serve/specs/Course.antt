@@ -81,10 +81,12 @@ pub record Rested (p : Profile) (R : ℕ) (f : Flow) (before after input kept : 
   pub came : Came p R (f .ended) (standing before f input) [] (standing after (r .flow) kept) wrote
   pub ended : r .flow .ended ≡ f .ended
   pub have : r .flow .have ≤ length kept
-  pub waits : r .pause ≡ Waiting → (f .ended ≡ false) × (r .flow .have < recordMost)
+  pub passing : (r .flow .skip ≡ 0 → ⊥) → hand (r .flow) kept ≡ []
+  pub waits : r .pause ≡ Waiting → (f .ended ≡ false) × (r .flow .have < recordMost) × (recordsIn p (hand (r .flow) kept) false ≡ [])
   pub stops : r .pause ≡ Stopped → (f .ended ≡ true) × (left p (standing after (r .flow) kept) [] ≡ [])
 
--- ---- a run over a sound store: some input was read, some text written; where all is done, nothing is left
+-- ---- a run over a sound store: some input was read, some text written; where bytes are missing, none is at hand; where all is done, nothing is
+-- left, or where more may follow, no whole record
 
 pub record Course (p : Profile) (R : ℕ) (before after : List ℕ) (last : Bool) (r : Report) : Type 0 where
   pub read : List ℕ
@@ -95,7 +97,10 @@ pub record Course (p : Profile) (R : ℕ) (before after : List ℕ) (last : Bool
   pub store : end .store ≡ after
   pub torn : r .torn ≡ length (end .hand)
   pub missing : r .missing ≡ end .skip
+  pub passing : (end .skip ≡ 0 → ⊥) → end .hand ≡ []
   pub done : r .end ≡ Whole → last ≡ true → (ended ≡ true) × (left p end [] ≡ [])
+  pub goes-on : last ≡ false → ended ≡ false
+  pub rests : r .end ≡ Whole → last ≡ false → recordsIn p (end .hand) false ≡ []
 
 -- not sound, the store stays as it was; sound, it is the rules' state of the first records of what was read, and stays sound
 pub record Served (p : Profile) (before after : List ℕ) (last : Bool) (r : Report) : Type 0 where

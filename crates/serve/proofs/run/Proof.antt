@@ -1,11 +1,13 @@
 -- `serve::run` meets its contract: what was read, what was written and what stands go together at each turn. Assumes nothing.
 use Prim.Native.Nat.{ℕ, _≤_}
 use mathlib.Core.Path.{_≡_, refl, sym, _∙_, ap}
+use mathlib.Core.Bool.{true≢false}
+use mathlib.Core.Logic.{⊎-elim}
 use native.Mathlib.Omega.{arith}
 use denote.Ref.{now}
 use borrow.Author.Needs.{needs}
 use lib.ListN.{length}
-use borrow.Author.Tests.{not-true}
+use borrow.Author.Tests.{not-true, not-false}
 use Rattle.requests.specs.Lines.{rowMost}
 use Rattle.serve.specs.Course.{recordMost}
 use Rattle.serve.proofs.Serving.{Serving, serving-start, course-waiting, serving-next, course-after}
@@ -161,7 +163,8 @@ returns-4 c =
     let a = l .before .before .before .before .before .args in
     let t = k .take-in in
     let x = c .told4 in
-    course-after (a .p) (a .places) (now (a .s)) (l .loop .s) (l .loop .input) (l .loop .f) (l .loop .inv .0) (l .loop .inv .1) (t .last .1 .1 .0) (t .result) (t .ensures) (q .last .0) (q .last .1 .1 .1 .0) (q .result) (q .ensures) (a .last) (x .result) (x .ensures .1) (x .ensures .2) (λ e. c .before .enum-told5 .given .1)
+    let j = c .before .before .before .before .before .before .before .before .before .before .before .before .before .before .before .before in
+    course-after (a .p) (a .places) (now (a .s)) (l .loop .s) (l .loop .input) (l .loop .f) (l .loop .inv .0) (l .loop .inv .1) (t .last .1 .1 .0) (t .result) (t .ensures) (q .last .0) (q .last .1 .1 .1 .0) (q .result) (q .ensures) (a .last) (⊎-elim (λ w l. absurd (true≢false (sym (not-false _ (w .1 .left)) ∙ l))) (λ w l. w .left) (j .if1 .came)) (x .result) (x .ensures .1) (x .ensures .2) (λ e. c .before .enum-told5 .given .1)
 
 enum-told-6 : tie.Need-enum-told-6 Inv-loop μ-loop
 enum-told-6 c = search needs
@@ -204,7 +207,8 @@ returns-5 c =
     let a = l .before .before .before .before .before .args in
     let t = k .take-in in
     let x = c .told5 in
-    course-after (a .p) (a .places) (now (a .s)) (l .loop .s) (l .loop .input) (l .loop .f) (l .loop .inv .0) (l .loop .inv .1) (t .last .1 .1 .0) (t .result) (t .ensures) (q .last .0) (q .last .1 .1 .1 .0) (q .result) (q .ensures) (a .last) (x .result) (x .ensures .1) (x .ensures .2) (λ e. let k = sym e ∙ x .ensures .0 in let z : _≡_ {A = ℕ} 0 1 = cc in absurd (omega arith))
+    let j = c .before .before .before .before .before .before .before .before .before .before .before .before .before .before .before .before in
+    course-after (a .p) (a .places) (now (a .s)) (l .loop .s) (l .loop .input) (l .loop .f) (l .loop .inv .0) (l .loop .inv .1) (t .last .1 .1 .0) (t .result) (t .ensures) (q .last .0) (q .last .1 .1 .1 .0) (q .result) (q .ensures) (a .last) (⊎-elim (λ w l. absurd (true≢false (sym (not-false _ (w .1 .left)) ∙ l))) (λ w l. w .left) (j .if1 .came)) (x .result) (x .ensures .1) (x .ensures .2) (λ e. let k = sym e ∙ x .ensures .0 in let z : _≡_ {A = ℕ} 0 1 = cc in absurd (omega arith))
 
 sub-reads : tie.Need-sub-reads Inv-loop μ-loop
 sub-reads c = search needs
