@@ -2,7 +2,7 @@
 use Prim.Native.Nat.{ℕ, zero, _+_, _-_, _≤_}
 use native.Mathlib.Omega.{arith}
 use mathlib.Core.Path.{_≡_, refl, sym, _∙_, ap}
-use mathlib.Core.Bool.{Bool, true, false}
+use mathlib.Core.Bool.{Bool, true, false, true≢false}
 use mathlib.Core.List.{List, [], _++_, append-assoc, append-nil}
 use lib.ListN.{length, take, drop, length-drop}
 use lib.Seq.{drop-drop, take-add, take-all}
@@ -119,6 +119,20 @@ module _ (p : Profile) (R : ℕ) where
           state = then-state;
           text = then-text;
         }
+
+  -- what holds whatever follows holds where nothing does
+  pub came-last : (x y : Standing) (read wrote : List ℕ) → Came p R false x read y wrote → Came p R true x read y wrote
+  came-last x y read wrote c =
+      let never : (more : List ℕ) → false ≡ true → more ≡ [] = λ more e. absurd (true≢false (sym e)) in
+      record {
+        store = c .store;
+        count = c .count;
+        few = λ more e. c .few more (never more);
+        others = λ more e. c .others more (never more);
+        place = λ more e. c .place more (never more);
+        state = λ more e. c .state more (never more);
+        text = λ more e. c .text more (never more);
+      }
 
   -- ---- to the end of the input: all of its text is written, and every record of it is carried out
 

@@ -31,13 +31,13 @@ use Rattle.requests.specs.declared.entry.Halt.the-variants.{Full, Waiting, Stop
 use Rattle.requests.specs.declared.entry.Ran.{Ran}
 use Rattle.requests.specs.Lines.{rowMost}
 use Rattle.requests.specs.Demanded.{linesFor}
-use Rattle.requests.specs.Stream.{wholeOf, Lent, recordsIn, stateOf, Many}
+use Rattle.requests.specs.Stream.{wholeOf, Lent, recordsIn, textOf, stateOf, Many}
 use Rattle.serve.specs.declared.flow.Flow.{Flow}
 use Rattle.serve.specs.declared.flow.Turn.{Turn}
 use Rattle.serve.specs.declared.End.the-variants.{Whole}
 use Rattle.serve.specs.declared.Report.{Report}
 use Rattle.serve.specs.Flow.{started, Turned}
-use Rattle.serve.specs.Course.{Standing, start, standing, recordMost, left, textLeft, Came, Course, Served}
+use Rattle.serve.specs.Course.{Standing, start, standing, recordMost, left, textLeft, Came, Course, Served, mended}
 use Rattle.serve.specs.Demanded.{Safe, Calls, Doing, Doings, Spares}
 use Rattle.rules.proofs.Afterwards.{unchanged, refused-whole, insert-stops, update-stops, update-kept}
 use Rattle.rules.proofs.Demand.{demand-sound}
@@ -49,10 +49,13 @@ use Rattle.rules.proofs.Widths.{full-known}
 use Rattle.requests.proofs.Lending.{full-coded, sound-store}
 use Rattle.requests.proofs.Entries.{lines-for, unsound-refused, sound-answered}
 use Rattle.requests.proofs.Validity.{whole-readable, outcome-valid, valid-sound}
-use Rattle.serve.proofs.Coming.{all-text, all-bytes}
+use Rattle.serve.proofs.Pieces.{no-records}
+use Rattle.serve.proofs.Coming.{came-then, came-last, all-text, all-bytes}
 use Rattle.serve.proofs.Doing.{came-doings}
 use Rattle.serve.proofs.Resting.{answering-start, rested-waiting, rested-stopped}
-use Rattle.serve.proofs.Serving.{store-sound}
+use Rattle.serve.proofs.Serving.{store-sound, store-places}
+use Rattle.serve.proofs.Log.{came-mended}
+use Rattle.serve.proofs.Replayed.{replayed}
 
 -- ==== DEMAND 1: any request bytes, any lent store: the store stays sound or stays as it was, and each refusal has a stated effect on its bytes
 
@@ -165,7 +168,7 @@ pub each-turn : (R : ℕ) (f : Flow) (before after input kept out done : List �
 each-turn R f before after input kept out done t b have room same same-out turn =
     let h = answering-start full R f before input out b have room in (
       λ e. omega (arith, turn .ran .full e, room),
-      λ e. rested-waiting full R f before input before input out f h after kept done t turn same same-out 0 e .waits refl,
+      λ e. let w = rested-waiting full R f before input before input out f h after kept done t turn same same-out 0 e .waits refl in (w .0, w .1),
       λ e. rested-stopped full R f before input before input out f h after kept done t turn same same-out 0 e .stops refl,
       turn .ran .tested,
     )
@@ -278,3 +281,75 @@ demand-3-others-one rec before after a n h l e sp =
     let v : Valid full R z = outcome-valid full R s (wholeOf full rec) (whole-readable full rec h) (b .valid) in
     let k : parse full R after ≡ z = ap (parse full R) (sound-answered (wholeOf full rec) before after a l e .bytes) ∙ parse-image full full-known R (b .most) z (valid-laid v) in
     subst (Untouched n s) (sym k) (demand-3-others R s (wholeOf full rec) n sp)
+
+-- ==== THE KIOSK'S LOG: it is replayed over a fresh store (`c`, a run that more may follow), its torn bytes are cut off, and as many as are missing
+-- appended, whatever they are; then new input is appended to it and run over the store that the replay left (`d`)
+
+-- a store keeps its number of row places from one run to the next
+pub places-stay : (before after : List ℕ) (last : Bool) (r : Report) → Served full before after last r → sound full before ≡ true
+    → placesOf full after ≡ placesOf full before
+places-stay before after last r s h =
+    let c = s .ran h in
+    ap (placesOf full) (sym (c .store)) ∙ store-places full (placesOf full before) (c .end .store) (c .came .store)
+
+still-open : (R : ℕ) (before after : List ℕ) (r : Report) (c : Course full R before after false r) → Came full R false (start before) (c .read) (c .end) (c .wrote)
+still-open R before after r c = subst (λ (b : Bool). Came full R b (start before) (c .read) (c .end) (c .wrote)) (c .goes-on refl) (c .came)
+
+module _ (R : ℕ) (fresh now : List ℕ) (r : Report) (c : Course full R fresh now false r) (fill : List ℕ) (filled : length fill ≡ r .missing) where
+  abbrev first : State
+  first = parse full R fresh
+
+  -- the log as it is run on, and the lines of its records
+  abbrev kept : List ℕ
+  kept = mended (c .read) (r .torn) fill
+
+  abbrev earlier : List ℕ
+  earlier = linesFor R first (recordsIn full kept true)
+
+  -- what the replay carried out is the kept log, all of it
+  log-mended : Came full R false (start fresh) kept (start now) earlier
+  log-mended =
+      subst (λ (l : List ℕ). Came full R false (start fresh) kept (start now) l) (lines-for R first (recordsIn full kept true))
+      (subst (λ (s : List ℕ). Came full R false (start fresh) kept (start s) (textOf full R first (recordsIn full kept true) 0)) (c .store)
+      (subst (λ (n : ℕ). Came full R false (start fresh) (mended (c .read) n fill) (start (c .end .store)) (textOf full R first (recordsIn full (mended (c .read) n fill) true) 0)) (sym (c .torn))
+      (came-mended full R fresh (c .read) (c .end) (c .wrote) (still-open R fresh now r c) fill (filled ∙ c .missing) (c .passing))))
+
+  -- so the replay leaves the store of the kept log's records
+  pub log-kept : now ≡ image full R (stateOf full R first (recordsIn full kept true))
+  log-kept = demand-2-whole R fresh kept (start now) earlier (came-last full R (start fresh) (start now) kept earlier log-mended) (no-records full true) .1
+
+  -- and the two runs are one run over the kept log and the new input joined, at every moment
+  pub log-joined : (ended : Bool) (input : List ℕ) (z : Standing) (wrote : List ℕ) → Came full R ended (start now) input z wrote
+      → Came full R ended (start fresh) (kept ++ input) z (earlier ++ wrote)
+  log-joined ended input z wrote d =
+      came-then full R false ended (start fresh) (start now) z kept input earlier wrote log-mended d (λ e. absurd (true≢false (sym e)))
+
+  -- in bytes: the lines of the second run follow those of the log, and the store is that of the records that were carried out,
+  pub log-front : (ended : Bool) (input : List ℕ) (z : Standing) (wrote more : List ℕ) (d : Came full R ended (start now) input z wrote)
+      → (ended ≡ true → more ≡ [])
+      → (rest : List ℕ) × (linesFor R first (recordsIn full ((kept ++ input) ++ more) true) ≡ (earlier ++ wrote) ++ rest)
+      × (z .store ≡ image full R (stateOf full R first (take (log-joined ended input z wrote d .count) (recordsIn full ((kept ++ input) ++ more) true))))
+  log-front ended input z wrote more d e =
+      demand-2-front R ended fresh (kept ++ input) z (earlier ++ wrote) more (log-joined ended input z wrote d) e
+
+  -- to the end of the new input
+  module _ (after : List ℕ) (q : Report) (d : Course full R now after true q) (whole : q .end ≡ Whole) where
+    joined-whole : Came full R true (start fresh) (kept ++ d .read) (d .end) (earlier ++ d .wrote)
+    joined-whole =
+        log-joined true (d .read) (d .end) (d .wrote)
+        (subst (λ (b : Bool). Came full R b (start now) (d .read) (d .end) (d .wrote)) (d .done whole refl .0) (d .came))
+
+    pub log-whole : (earlier ++ d .wrote ≡ linesFor R first (recordsIn full (kept ++ d .read) true))
+        × (after ≡ image full R (stateOf full R first (recordsIn full (kept ++ d .read) true)))
+    log-whole =
+        let t = demand-2-whole R fresh (kept ++ d .read) (d .end) (earlier ++ d .wrote) joined-whole (d .done whole refl .1) in
+        (t .0, sym (d .store) ∙ t .1)
+
+    -- the next replay, of the log with what was appended, leaves the store that answered, though a record that was cut off and answered is torn there
+    pub log-again : (again : List ℕ) (x : Report) (e : Course full R fresh again false x) → e .read ≡ kept ++ d .read → x .end ≡ Whole → again ≡ after
+    log-again again x e same w =
+        sym (e .store)
+        ∙ replayed full R fresh (e .read) (e .end) (e .wrote) (still-open R fresh again x e) (e .passing) (e .rests w refl) (d .end) (earlier ++ d .wrote)
+        (subst (λ (l : List ℕ). Came full R true (start fresh) l (d .end) (earlier ++ d .wrote)) (sym same) joined-whole)
+        (d .done whole refl .1)
+        ∙ d .store

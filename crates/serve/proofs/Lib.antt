@@ -7,4 +7,6 @@ pub mod Turning
 pub mod Resting
 pub mod Serving
 pub mod Doing
+pub mod Log
+pub mod Replayed
 pub mod Demands

@@ -13,7 +13,7 @@ use Rattle.rules.specs.Profile.{full}
 use Rattle.rules.specs.Layout.{parse, placesOf}
 use Rattle.rules.specs.Sound.{sound}
 use Rattle.rules.proofs.Valid.{valid-is, valid-laid}
-use Rattle.rules.proofs.Whole.{sound-image}
+use Rattle.rules.proofs.Whole.{sound-image, places-image}
 use Rattle.laid.specs.Store.{Store}
 use Rattle.requests.specs.Stream.{recordsIn}
 use Rattle.serve.specs.declared.flow.Flow.{Flow}
@@ -151,12 +151,16 @@ module _ (p : Profile) (R : ℕ) (before : List ℕ) where
             rests = λ e l. absurd (true≢false (sym (rest .stops (w e) .0) ∙ on l));
           }
 
--- ---- the store stays sound
+-- ---- the store stays sound, with as many places
 
 pub store-sound : (p : Profile) (R : ℕ) (s : List ℕ) → Store p R s → sound p s ≡ true
 store-sound p R s b =
     subst (λ (l : List ℕ). sound p l ≡ true) (sym (b .bytes))
     (sound-image p (b .coded .known) R (b .places) (parse p R s) (valid-laid (valid-is p R (parse p R s) (b .valid))) (b .valid) (b .some))
+
+pub store-places : (p : Profile) (R : ℕ) (s : List ℕ) → Store p R s → placesOf p s ≡ R
+store-places p R s b =
+    ap (placesOf p) (b .bytes) ∙ places-image p (b .coded .known) R (b .places) (parse p R s) (valid-laid (valid-is p R (parse p R s) (b .valid)))
 
 -- ---- tested once
 

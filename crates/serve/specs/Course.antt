@@ -1,6 +1,6 @@
 -- An input that comes in pieces, as the rules see it: what stands between two reads, what was read and written since, and the records that are
 -- left. Assumes nothing.
-use Prim.Native.Nat.{ℕ, _+_, _≤_, _<_}
+use Prim.Native.Nat.{ℕ, _+_, _-_, _≤_, _<_}
 use mathlib.Core.Path.{_≡_}
 use mathlib.Core.Bool.{Bool, true, false}
 use mathlib.Core.List.{List, [], _++_}
@@ -107,3 +107,8 @@ pub record Served (p : Profile) (before after : List ℕ) (last : Bool) (r : Rep
   pub unsound : sound p before ≡ false → (after ≡ before) × (r .end ≡ Unsound)
   pub ran : sound p before ≡ true → Course p (placesOf p before) before after last r
   pub sound : sound p before ≡ true → sound p after ≡ true
+
+-- ---- a log as it is run on after a replay: `torn` bytes are cut off at its end, and `fill` is appended
+
+abbrev pub mended : List ℕ → ℕ → List ℕ → List ℕ
+mended log torn fill = take (length log - torn) log ++ fill

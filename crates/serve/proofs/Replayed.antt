@@ -1,0 +1,121 @@
+-- A replay of what a run has read leaves the store that the run left: a torn record at the end changes nothing. Assumes nothing.
+use Prim.Native.Nat.{ℕ, zero, suc, _+_}
+use native.Mathlib.Omega.{arith}
+use mathlib.Core.Path.{_≡_, refl, sym, _∙_, ap, subst}
+use mathlib.Core.Bool.{Bool, true, false}
+use mathlib.Core.List.{List, [], _∷_, _++_, append-nil}
+use lib.Dec.{eqb, ltb}
+use lib.ListN.{length, take, drop, take-append-drop}
+use lib.Seq.{drop-nil}
+use borrow.Author.Tests.{eqb-true, eqb-false}
+use Rattle.forms.specs.Read.{Read, broken}
+use Rattle.rules.specs.declared.profile.Profile.{Profile}
+use Rattle.rules.specs.State.{State}
+use Rattle.rules.specs.Layout.{image, parse}
+use Rattle.rules.specs.Request.{Request}
+use Rattle.rules.specs.Step.{applyAll}
+use Rattle.records.specs.declared.frame.Framed.{Framed}
+use Rattle.records.specs.declared.frame.Framed.the-variants.{Whole, Skip, More, Cut, Done}
+use Rattle.records.specs.Frame.{framed, lengthOf, leastLength, mostLength}
+use Rattle.operations.specs.Told.{outcomeOf}
+use Rattle.requests.specs.Stream.{recordsIn, stateOf}
+use Rattle.requests.proofs.Running.{records-by}
+use Rattle.serve.specs.Course.{Standing, start, left, Came}
+use Rattle.serve.proofs.Pieces.{tested, framed-two, no-records}
+use Rattle.serve.proofs.Texts.{state-then}
+use Rattle.serve.proofs.Coming.{all-bytes}
+
+-- ---- where no whole record is at hand, what is at hand changes nothing: at the end of the input it is cut off, or nothing is there
+
+abbrev Over : Framed → Type 0
+Over (Whole k) = ⊥
+Over (Skip k) = ⊥
+Over More = ⊥
+Over Cut = Unit {0}
+Over Done = Unit {0}
+
+-- g is the frame at the end of the input, the other one that of the same bytes where more may follow
+abbrev Ends : Framed → Framed → Type 0
+Ends g (Whole k) = Unit {0}
+Ends g (Skip k) = Unit {0}
+Ends g More = Over g
+Ends g Cut = ⊥
+Ends g Done = ⊥
+
+ends-tested : (low high less : Bool) (k : ℕ) → Ends (tested low high less k true) (tested low high less k false)
+ends-tested true high less k = tt
+ends-tested false true less k = tt
+ends-tested false false true k = tt
+ends-tested false false false k = tt
+
+ends-frame : (s : List ℕ) → Ends (framed s true) (framed s false)
+unfolding framed
+ends-frame [] = tt
+ends-frame (x ∷ []) = tt
+ends-frame (x ∷ y ∷ a) =
+    let s : List ℕ = x ∷ y ∷ a in
+    let k : ℕ = lengthOf s in
+    subst (λ (g : Framed). Ends g (framed s false)) (framed-two s true (omega arith))
+    (subst (Ends (tested (ltb k leastLength) (ltb mostLength k) (ltb (length s) (2 + k)) (2 + k) true)) (framed-two s false (omega arith))
+    (ends-tested (ltb k leastLength) (ltb mostLength k) (ltb (length s) (2 + k)) (2 + k)))
+
+module _ (p : Profile) (R : ℕ) where
+  no-change : (st : State) (x : ℕ) → stateOf p R st (broken x ∷ []) ≡ st
+  unfolding stateOf outcomeOf applyAll
+  no-change st x = refl
+
+  no-state : (st : State) → stateOf p R st [] ≡ st
+  unfolding stateOf
+  no-state st = refl
+
+  over-by : (s : List ℕ) (g : Framed) → g ≡ framed s true → Over g → (st : State) → stateOf p R st (recordsIn p s true) ≡ st
+  over-by s (Whole k) e h st = absurd h
+  over-by s (Skip k) e h st = absurd h
+  over-by s More e h st = absurd h
+  over-by s Cut e h st = ap (stateOf p R st) (records-by p s true Cut e) ∙ no-change st 0
+  over-by s Done e h st = ap (stateOf p R st) (records-by p s true Done e) ∙ no-state st
+
+  some-whole : (q : Read Request) (ws : List (Read Request)) → q ∷ ws ≡ [] → ⊥
+  some-whole q ws e = let z : _≡_ {A = ℕ} (suc (length ws)) 0 = ap length e in absurd (omega arith)
+
+  torn-by : (s : List ℕ) (f : Framed) → f ≡ framed s false → Ends (framed s true) f → recordsIn p s false ≡ []
+      → (st : State) → stateOf p R st (recordsIn p s true) ≡ st
+  torn-by s (Whole k) e h n st = absurd (some-whole _ _ (sym (records-by p s false (Whole k) e) ∙ n))
+  torn-by s (Skip k) e h n st = absurd (some-whole _ _ (sym (records-by p s false (Skip k) e) ∙ n))
+  torn-by s More e h n st = over-by s (framed s true) refl h st
+  torn-by s Cut e h n st = absurd h
+  torn-by s Done e h n st = absurd h
+
+  torn-changes-nothing : (s : List ℕ) → recordsIn p s false ≡ [] → (st : State) → stateOf p R st (recordsIn p s true) ≡ st
+  torn-changes-nothing s = torn-by s (framed s false) refl (ends-frame s)
+
+  -- a replay of what a run has read to its end leaves the store that the run left
+  module _ (s log : List ℕ) (y : Standing) (v : List ℕ) (c : Came p R false (start s) log y v) (passing : (y .skip ≡ 0 → ⊥) → y .hand ≡ [])
+      (none : recordsIn p (y .hand) false ≡ []) where
+    left-torn : (st : State) → stateOf p R st (left p y []) ≡ st
+    left-torn st = go (eqb (y .skip) 0) refl
+      where
+        go : (b : Bool) → eqb (y .skip) 0 ≡ b → stateOf p R st (left p y []) ≡ st
+        go true e =
+            ap (λ (l : List ℕ). stateOf p R st (recordsIn p (drop (y .skip) l) true)) (append-nil (y .hand))
+            ∙ ap (λ (k : ℕ). stateOf p R st (recordsIn p (drop k (y .hand)) true)) (eqb-true (y .skip) 0 e)
+            ∙ torn-changes-nothing (y .hand) none st
+        go false e =
+            ap (λ (l : List ℕ). stateOf p R st (recordsIn p (drop (y .skip) (l ++ [])) true)) (passing (eqb-false (y .skip) 0 e))
+            ∙ ap (λ (l : List ℕ). stateOf p R st (recordsIn p l true)) (drop-nil (y .skip))
+            ∙ ap (stateOf p R st) (no-records p true)
+            ∙ no-state st
+
+    pub replayed : (z : Standing) (w : List ℕ) → Came p R true (start s) log z w → left p z [] ≡ [] → y .store ≡ z .store
+    replayed z w d all =
+        let ws : List (Read Request) = recordsIn p (log ++ []) true in
+        let never : false ≡ true → _≡_ {A = List ℕ} [] [] = λ e. refl in
+        let e : stateOf p R (parse p R s) (recordsIn p log true) ≡ parse p R (y .store) =
+        ap (λ (l : List ℕ). stateOf p R (parse p R s) (recordsIn p l true)) (sym (append-nil log))
+        ∙ ap (stateOf p R (parse p R s)) (sym (take-append-drop (c .count) ws))
+        ∙ state-then p R (parse p R s) (take (c .count) ws) (drop (c .count) ws)
+        ∙ ap (λ (st : State). stateOf p R st (drop (c .count) ws)) (sym (c .state [] never))
+        ∙ ap (stateOf p R (parse p R (y .store))) (sym (c .others [] never))
+        ∙ left-torn (parse p R (y .store))
+        in
+        c .store .bytes ∙ ap (image p R) (sym e) ∙ sym (all-bytes p R (start s) z log w d all)
