@@ -1,7 +1,7 @@
 -- How a run over an input in pieces goes on: nothing done, something read, one after the other. Assumes nothing.
 use Prim.Native.Nat.{ℕ, zero, _+_, _-_, _≤_}
 use native.Mathlib.Omega.{arith}
-use mathlib.Core.Path.{_≡_, refl, sym, _∙_, ap}
+use mathlib.Core.Path.{_≡_, refl, sym, _∙_, ap, subst}
 use mathlib.Core.Bool.{Bool, true, false, true≢false}
 use mathlib.Core.List.{List, [], _++_, append-assoc, append-nil}
 use lib.ListN.{length, take, drop, length-drop}
@@ -13,7 +13,10 @@ use Rattle.rules.specs.Layout.{image, parse}
 use Rattle.rules.specs.Request.{Request}
 use Rattle.laid.specs.Store.{Store}
 use Rattle.requests.specs.Stream.{recordsIn, bytesOf, textOf, stateOf}
-use Rattle.serve.specs.Course.{Standing, ahead, left, textLeft, Came}
+use Rattle.serve.specs.declared.flow.Flow.{Flow}
+use Rattle.serve.specs.declared.Taken.{Taken}
+use Rattle.serve.specs.Flow.{hand}
+use Rattle.serve.specs.Course.{standing, TakenIn, Standing, ahead, left, textLeft, Came}
 use Rattle.serve.proofs.Pieces.{bytes-zero, bytes-add}
 use Rattle.serve.proofs.Texts.{state-then}
 
@@ -38,7 +41,7 @@ module _ (p : Profile) (R : ℕ) where
       }
 
   -- a piece came in behind the bytes at hand
-  pub came-read : (x : Standing) (piece : List ℕ) → Store p R (x .store)
+  came-read : (x : Standing) (piece : List ℕ) → Store p R (x .store)
       → Came p R false x piece (record { store = x .store; hand = x .hand ++ piece; skip = x .skip; lines = x .lines }) []
   came-read x piece s =
       let next : Standing = record { store = x .store; hand = x .hand ++ piece; skip = x .skip; lines = x .lines } in
@@ -53,6 +56,14 @@ module _ (p : Profile) (R : ℕ) where
         state = λ more e. sym (no-state (parse p R (x .store)) (left p x (piece ++ more)));
         text = λ more e. sym (ap (λ (ws : List (Read Request)). textOf p R (parse p R (x .store)) ws (x .lines)) (same more));
       }
+
+  pub came-taken : (f : Flow) (s input mid : List ℕ) (t : Taken) (i : TakenIn f input mid t) → Store p R s
+      → Came p R false (standing s f input) (i .piece) (standing s (t .flow) mid) []
+  came-taken f s input mid t i b =
+      subst (λ (x : Standing). Came p R false (standing s f input) (i .piece) x []) same (came-read (standing s f input) (i .piece) b)
+    where
+      same : record { store = s; hand = hand f input ++ i .piece; skip = f .skip; lines = f .lines } ≡ standing s (t .flow) mid
+      same = rw (i .hand, i .skip, i .lines)
 
   -- one after the other; behind the input's end nothing more is read
   module _ (e₁ e₂ : Bool) (x y z : Standing) (a b v w : List ℕ) (h : Came p R e₁ x a y v) (k : Came p R e₂ y b z w)

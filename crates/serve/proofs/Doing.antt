@@ -1,7 +1,7 @@
 -- Reads and turns in any order, over any buffers, are a run over the whole input. Assumes nothing.
 use Prim.Native.Nat.{ℕ, _≤_}
-use mathlib.Core.Path.{_≡_, refl, sym, _∙_, ap, subst}
-use mathlib.Core.Bool.{Bool, true, false, true≢false}
+use mathlib.Core.Path.{_≡_, sym, _∙_, ap}
+use mathlib.Core.Bool.{true, false, true≢false}
 use mathlib.Core.List.{List, [], _∷_, _++_}
 use lib.ListN.{length, take}
 use Rattle.rules.specs.Profile.{full}
@@ -9,22 +9,13 @@ use Rattle.laid.specs.Store.{Store}
 use Rattle.serve.specs.declared.flow.Flow.{Flow}
 use Rattle.serve.specs.declared.flow.Turn.{Turn}
 use Rattle.serve.specs.declared.Taken.{Taken}
-use Rattle.serve.specs.Flow.{hand, Turned}
-use Rattle.serve.specs.Course.{Standing, standing, Came, TakenIn}
+use Rattle.serve.specs.Flow.{Turned}
+use Rattle.serve.specs.Course.{standing, Came, TakenIn}
 use Rattle.serve.specs.Demanded.{Doing, reading, turning, Doings}
-use Rattle.serve.proofs.Coming.{came-nowhere, came-read, came-then}
+use Rattle.serve.proofs.Coming.{came-nowhere, came-taken, came-then}
 use Rattle.serve.proofs.Turning.{came-turn}
 
 module _ (R : ℕ) where
-  -- a piece came in: what stands is what stood, and the piece
-  pub came-taken : (f : Flow) (s input mid : List ℕ) (t : Taken) (i : TakenIn f input mid t) → Store full R s
-      → Came full R false (standing s f input) (i .piece) (standing s (t .flow) mid) []
-  came-taken f s input mid t i b =
-      subst (λ (x : Standing). Came full R false (standing s f input) (i .piece) x []) same (came-read full R (standing s f input) (i .piece) b)
-    where
-      same : record { store = s; hand = hand f input ++ i .piece; skip = f .skip; lines = f .lines } ≡ standing s (t .flow) mid
-      same = rw (i .hand, i .skip, i .lines)
-
   -- behind the input's end nothing is read
   last-read : (ds : List Doing) (f g : Flow) (s input read wrote after kept : List ℕ) → f .ended ≡ true → Doings R ds f s input read wrote g after kept
       → (g .ended ≡ true) × (read ≡ [])
@@ -42,7 +33,7 @@ module _ (R : ℕ) where
   came-doings (reading ∷ ds) f g s input read wrote after kept b d =
       let i = d .3 in
       rw (d .5)
-      (came-then full R false (g .ended) (standing s f input) (standing s (d .2 .flow) (d .0)) (standing after g kept) (i .piece) (d .1) [] wrote (came-taken f s input (d .0) (d .2) i b)
+      (came-then full R false (g .ended) (standing s f input) (standing s (d .2 .flow) (d .0)) (standing after g kept) (i .piece) (d .1) [] wrote (came-taken full R f s input (d .0) (d .2) i b)
       (came-doings ds (d .2 .flow) g s (d .0) (d .1) wrote after kept b (d .6)) (λ e. absurd (true≢false (sym e))))
   came-doings (turning ∷ ds) f g s input read wrote after kept b d =
       let t = d .5 in

@@ -28,7 +28,7 @@ use Rattle.serve.specs.Flow.{started, hand, Arrived}
 use Rattle.serve.specs.Course.{Standing, start, standing, left, recordMost, Came, TakenIn, Rested, Course, Served}
 use Rattle.serve.proofs.Hand.{none-taken}
 use Rattle.serve.proofs.Pieces.{no-records}
-use Rattle.serve.proofs.Coming.{came-nowhere, came-read, came-then}
+use Rattle.serve.proofs.Coming.{came-nowhere, came-taken, came-then}
 
 -- ---- what came in stands behind the bytes at hand
 
@@ -101,23 +101,14 @@ module _ (p : Profile) (R : ℕ) (before : List ℕ) where
       abbrev next : Standing
       next = standing after (r .flow) kept
 
-      -- what stood, and the piece
-      abbrev grown : Standing
-      grown = record { store = now; hand = hand f input ++ piece; skip = f .skip; lines = f .lines }
-
-      came-in : Came p R (t .flow .ended) grown [] next (rest .wrote)
-      came-in =
-          subst (λ (s : List ℕ). Came p R (t .flow .ended) (record { store = now; hand = s; skip = f .skip; lines = f .lines }) [] next (rest .wrote)) (took .hand)
-          (subst (λ (j : ℕ). Came p R (t .flow .ended) (record { store = now; hand = hand (t .flow) mid; skip = j; lines = f .lines }) [] next (rest .wrote)) (took .skip)
-          (subst (λ (j : ℕ). Came p R (t .flow .ended) (record { store = now; hand = hand (t .flow) mid; skip = t .flow .skip; lines = j }) [] next (rest .wrote)) (took .lines)
-          (rest .came)))
-
       came-next : Came p R (t .flow .ended) (start before) ((h .read ++ piece) ++ []) next ((h .wrote ++ []) ++ rest .wrote)
       came-next =
           let never : false ≡ true → ⊥ = λ e. true≢false (sym e) in
+          let at : Standing = standing now f input in
+          let grown : Standing = standing now (t .flow) mid in
           came-then p R false (t .flow .ended) (start before) grown next (h .read ++ piece) [] (h .wrote ++ []) (rest .wrote)
-          (came-then p R false false (start before) (standing now f input) grown (h .read) piece (h .wrote) [] (h .came) (came-read p R (standing now f input) piece (h .came .store)) (λ e. absurd (never e)))
-          came-in
+          (came-then p R false false (start before) at grown (h .read) piece (h .wrote) [] (h .came) (came-taken p R f now input mid t took (h .came .store)) (λ e. absurd (never e)))
+          (rest .came)
           (λ e. absurd (never e))
 
       pub serving-next : r .pause ≡ Waiting → Serving p R before after kept (r .flow)
