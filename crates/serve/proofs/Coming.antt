@@ -17,7 +17,7 @@ use Rattle.serve.specs.declared.flow.Flow.{Flow}
 use Rattle.serve.specs.declared.Taken.{Taken}
 use Rattle.serve.specs.Flow.{hand}
 use Rattle.serve.specs.Course.{standing, TakenIn, Standing, ahead, left, textLeft, Came}
-use Rattle.serve.proofs.Pieces.{bytes-zero, bytes-add}
+use Rattle.serve.proofs.Pieces.{bytes-zero, bytes-add, same-bytes, more-records, records-behind}
 use Rattle.serve.proofs.Texts.{state-then}
 
 module _ (p : Profile) (R : ℕ) where
@@ -33,6 +33,7 @@ module _ (p : Profile) (R : ℕ) where
       record {
         store = s;
         count = 0;
+        held = omega arith;
         few = λ more e. omega arith;
         others = λ more e. refl;
         place = λ more e. behind-none (ahead x more);
@@ -45,11 +46,16 @@ module _ (p : Profile) (R : ℕ) where
       → Came p R false x piece (record { store = x .store; hand = x .hand ++ piece; skip = x .skip; lines = x .lines }) []
   came-read x piece s =
       let next : Standing = record { store = x .store; hand = x .hand ++ piece; skip = x .skip; lines = x .lines } in
-      let bytes : (more : List ℕ) → ahead next more ≡ ahead x (piece ++ more) = λ more. ap (drop (x .skip)) (append-assoc (x .hand) piece more) in
-      let same : (more : List ℕ) → left p next more ≡ left p x (piece ++ more) = λ more. ap (λ (l : List ℕ). recordsIn p l true) (bytes more) in
+      let bytes : (more : List ℕ) → ahead next more ≡ ahead x (piece ++ more) =
+      λ more. ap (drop (x .skip)) (append-assoc (x .hand) piece more)
+      in
+      let same : (more : List ℕ) → left p next more ≡ left p x (piece ++ more) =
+      λ more. ap (λ (l : List ℕ). recordsIn p l true) (bytes more)
+      in
       record {
         store = s;
         count = 0;
+        held = omega arith;
         few = λ more e. omega arith;
         others = λ more e. same more;
         place = λ more e. bytes more ∙ behind-none (ahead x (piece ++ more));
@@ -119,17 +125,60 @@ module _ (p : Profile) (R : ℕ) where
           ∙ ap (λ (l : List ℕ). v ++ l) (k .text more e)
           ∙ sym (append-assoc v w (textLeft p R z more))
 
+    -- what was read of the one and of the other
+    abbrev both : List ℕ
+    both = ahead x (a ++ b)
+
+    held-first : h .count ≤ length (recordsIn p both e₂)
+    held-first = go e₁ refl
+      where
+        go : (t : Bool) → e₁ ≡ t → h .count ≤ length (recordsIn p both e₂)
+        go true t =
+            let o : recordsIn p (ahead x a) e₁ ≡ recordsIn p both e₂ =
+            ap (recordsIn p (ahead x a)) (t ∙ sym (ends t .0))
+            ∙ ap (λ (l : List ℕ). recordsIn p (ahead x l) e₂) (sym (ap (λ (l : List ℕ). a ++ l) (ends t .1) ∙ append-nil a))
+            in
+            subst (λ (ws : List (Read Request)). h .count ≤ length ws) o (h .held)
+        go false t =
+            subst (λ (l : List ℕ). h .count ≤ length (recordsIn p (drop (x .skip) l) e₂)) (append-assoc (x .hand) a b)
+            (more-records p b e₂ (h .count) (x .skip) (x .hand ++ a)
+            (subst (λ (u : Bool). h .count ≤ length (recordsIn p (ahead x a) u)) t (h .held)))
+
+    same-place : bytesOf (h .count) both true ≡ bytesOf (h .count) both e₂
+    same-place = go e₂ refl
+      where
+        go : (t : Bool) → e₂ ≡ t → bytesOf (h .count) both true ≡ bytesOf (h .count) both e₂
+        go true t = ap (bytesOf (h .count) both) (sym t)
+        go false t =
+            ap (λ (l : List ℕ). bytesOf (h .count) l true) (sym (append-nil both))
+            ∙ same-bytes p [] true (h .count) both (subst (λ (u : Bool). h .count ≤ length (recordsIn p both u)) t held-first)
+            ∙ ap (bytesOf (h .count) both) (sym t)
+
+    then-held : h .count + k .count ≤ length (recordsIn p both e₂)
+    then-held =
+        let e : recordsIn p (ahead y b) e₂ ≡ drop (h .count) (recordsIn p both e₂) =
+        ap (λ (l : List ℕ). recordsIn p l e₂) (h .place b (λ t. ends t .1) ∙ ap (λ (j : ℕ). drop j both) same-place)
+        ∙ records-behind p e₂ (h .count) both
+        in
+        let l : k .count ≤ length (recordsIn p both e₂) - h .count = rw (← length-drop (h .count) (recordsIn p both e₂), ← e) (k .held) in
+        omega (arith, l, held-first)
+
     pub came-then : Came p R e₂ x (a ++ b) z (v ++ w)
     came-then =
         record {
           store = k .store;
           count = h .count + k .count;
+          held = then-held;
           few = then-few;
           others = then-others;
           place = then-place;
           state = then-state;
           text = then-text;
         }
+
+    pub then-count : came-then .count ≡ h .count + k .count
+    unfolding came-then
+    then-count = refl
 
   -- what holds whatever follows holds where nothing does
   pub came-last : (x y : Standing) (read wrote : List ℕ) → Came p R false x read y wrote → Came p R true x read y wrote
@@ -138,12 +187,22 @@ module _ (p : Profile) (R : ℕ) where
       record {
         store = c .store;
         count = c .count;
+        held = subst (λ (l : List ℕ). c .count ≤ length (left p x l)) (append-nil read) (c .few [] (never []));
         few = λ more e. c .few more (never more);
         others = λ more e. c .others more (never more);
         place = λ more e. c .place more (never more);
         state = λ more e. c .state more (never more);
         text = λ more e. c .text more (never more);
       }
+
+  -- where nothing is left, all are counted
+  pub all-counted : (ended : Bool) (x y : Standing) (read wrote : List ℕ) (c : Came p R ended x read y wrote) → left p y [] ≡ []
+      → c .count ≡ length (left p x read)
+  all-counted ended x y read wrote c none =
+      let ws : List (Read Request) = left p x (read ++ []) in
+      let same : length ws ≡ length (left p x read) = ap (λ (l : List ℕ). length (left p x l)) (append-nil read) in
+      let l : length ws - c .count ≡ 0 = sym (length-drop (c .count) ws) ∙ ap length (sym (c .others [] (λ e. refl)) ∙ none) in
+      omega (arith, l, same, c .few [] (λ e. refl))
 
   -- ---- to the end of the input: all of its text is written, and every record of it is carried out
 

@@ -29,29 +29,34 @@ Alike l g More = Unit {0}
 Alike l g Cut = Unit {0}
 Alike l g Done = Unit {0}
 
-alike-tested : (low high less less′ : Bool) (k l : ℕ) → (k ≤ l → less′ ≡ false) → Alike l (tested low high less′ k true) (tested low high less k true)
-alike-tested true high less less′ k l h = refl
-alike-tested false true less less′ k l h = refl
-alike-tested false false true less′ k l h = tt
-alike-tested false false false true k l h = λ m. absurd (true≢false (h m))
-alike-tested false false false false k l h = λ m. refl
+alike-tested : (low high less less′ ended : Bool) (k l : ℕ) → (k ≤ l → less′ ≡ false)
+    → Alike l (tested low high less′ k ended) (tested low high less k true)
+alike-tested true high less less′ ended k l h = refl
+alike-tested false true less less′ ended k l h = refl
+alike-tested false false true less′ ended k l h = tt
+alike-tested false false false true ended k l h = λ m. absurd (true≢false (h m))
+alike-tested false false false false ended k l h = λ m. refl
 
-alike-frame : (x y : ℕ) (u v : List ℕ) → Alike (length (x ∷ y ∷ v)) (framed (x ∷ y ∷ v) true) (framed (x ∷ y ∷ u) true)
-alike-frame x y u v =
+alike-frame : (x y : ℕ) (u v : List ℕ) (ended : Bool) → Alike (length (x ∷ y ∷ v)) (framed (x ∷ y ∷ v) ended) (framed (x ∷ y ∷ u) true)
+alike-frame x y u v ended =
     let s : List ℕ = x ∷ y ∷ u in
     let t : List ℕ = x ∷ y ∷ v in
     let k : ℕ = lengthOf s in
-    subst (λ (g : Framed). Alike (length t) g (framed s true)) (framed-two t true (omega arith))
-    (subst (Alike (length t) (tested (ltb k leastLength) (ltb mostLength k) (ltb (length t) (2 + k)) (2 + k) true)) (framed-two s true (omega arith))
-    (alike-tested (ltb k leastLength) (ltb mostLength k) (ltb (length s) (2 + k)) (ltb (length t) (2 + k)) (2 + k) (length t) (le-ltb (length t) (2 + k))))
+    subst (λ (g : Framed). Alike (length t) g (framed s true)) (framed-two t ended (omega arith))
+    (subst (Alike (length t) (tested (ltb k leastLength) (ltb mostLength k) (ltb (length t) (2 + k)) (2 + k) ended))
+    (framed-two s true (omega arith))
+    (alike-tested (ltb k leastLength) (ltb mostLength k) (ltb (length s) (2 + k)) (ltb (length t) (2 + k)) ended (2 + k) (length t)
+    (le-ltb (length t) (2 + k))))
 
-module _ (more : List ℕ) where
-  alike-cut : (b : ℕ) (a : List ℕ) → 2 ≤ b → 2 ≤ length a → Alike (length (take b a ++ more)) (framed (take b a ++ more) true) (framed a true)
+-- what follows the cut may have ended or not
+module _ (more : List ℕ) (ended : Bool) where
+  alike-cut : (b : ℕ) (a : List ℕ) → 2 ≤ b → 2 ≤ length a
+      → Alike (length (take b a ++ more)) (framed (take b a ++ more) ended) (framed a true)
   alike-cut b [] l m = absurd (omega arith)
   alike-cut b (x ∷ []) l m = absurd (omega arith)
   alike-cut zero (x ∷ y ∷ a) l m = absurd (omega arith)
   alike-cut (suc zero) (x ∷ y ∷ a) l m = absurd (omega arith)
-  alike-cut (suc (suc b)) (x ∷ y ∷ a) l m = alike-frame x y a (take b a ++ more)
+  alike-cut (suc (suc b)) (x ∷ y ∷ a) l m = alike-frame x y a (take b a ++ more) ended
 
   -- ---- cut behind n records that end before the input does
 
@@ -61,10 +66,13 @@ module _ (more : List ℕ) where
     cutAt n a = take (bytesOf n a true) a ++ more
 
     abbrev IsCut : ℕ → List ℕ → Type 0
-    IsCut n a = (recordsIn p (cutAt n a) true ≡ take n (recordsIn p a true) ++ recordsIn p more true) × (bytesOf n (cutAt n a) true ≡ bytesOf n a true)
+    IsCut n a =
+        (recordsIn p (cutAt n a) ended ≡ take n (recordsIn p a true) ++ recordsIn p more ended) ×
+        (bytesOf n (cutAt n a) ended ≡ bytesOf n a true)
 
     -- behind a first record q of k bytes
-    module _ (n k : ℕ) (a : List ℕ) (q : Read Request) (inside : k ≤ length a) (bytes : bytesOf (suc n) a true ≡ k + bytesOf n (drop k a) true) where
+    module _ (n k : ℕ) (a : List ℕ) (q : Read Request) (inside : k ≤ length a)
+        (bytes : bytesOf (suc n) a true ≡ k + bytesOf n (drop k a) true) where
       apart : cutAt (suc n) a ≡ take k a ++ cutAt n (drop k a)
       apart =
           ap (λ (j : ℕ). take j a ++ more) bytes
@@ -79,20 +87,20 @@ module _ (more : List ℕ) where
       same-bytes l =
           let m : k ≤ length (take k a) = omega (arith, length-take-le k a inside) in
           ap (λ (s : List ℕ). take (k - 2) (drop 2 s)) apart
-          ∙ same-record p (cutAt n (drop k a)) (take k a) k l m
-          ∙ sym (ap (λ (s : List ℕ). take (k - 2) (drop 2 s)) (sym (take-append-drop k a)) ∙ same-record p (drop k a) (take k a) k l m)
+          ∙ same-record p (take k a) (cutAt n (drop k a)) k l m
+          ∙ sym (ap (λ (s : List ℕ). take (k - 2) (drop 2 s)) (sym (take-append-drop k a)) ∙ same-record p (take k a) (drop k a) k l m)
 
       first-cut : recordsIn p a true ≡ q ∷ recordsIn p (drop k a) true
-          → recordsIn p (cutAt (suc n) a) true ≡ q ∷ recordsIn p (drop k (cutAt (suc n) a)) true
-          → bytesOf (suc n) (cutAt (suc n) a) true ≡ k + bytesOf n (drop k (cutAt (suc n) a)) true
+          → recordsIn p (cutAt (suc n) a) ended ≡ q ∷ recordsIn p (drop k (cutAt (suc n) a)) ended
+          → bytesOf (suc n) (cutAt (suc n) a) ended ≡ k + bytesOf n (drop k (cutAt (suc n) a)) ended
           → IsCut n (drop k a)
           → IsCut (suc n) a
       first-cut r e b h = (
         e
-            ∙ ap (λ (s : List ℕ). q ∷ recordsIn p s true) behind
+            ∙ ap (λ (s : List ℕ). q ∷ recordsIn p s ended) behind
             ∙ ap (λ (ws : List (Read Request)). q ∷ ws) (h .0)
-            ∙ ap (λ (ws : List (Read Request)). take (suc n) ws ++ recordsIn p more true) (sym r),
-        b ∙ ap (λ (s : List ℕ). k + bytesOf n s true) behind ∙ ap (λ (j : ℕ). k + j) (h .1) ∙ sym bytes,
+            ∙ ap (λ (ws : List (Read Request)). take (suc n) ws ++ recordsIn p more ended) (sym r),
+        b ∙ ap (λ (s : List ℕ). k + bytesOf n s ended) behind ∙ ap (λ (j : ℕ). k + j) (h .1) ∙ sym bytes,
       )
 
     cut-by : (n : ℕ) (a : List ℕ) (f : Framed) → f ≡ framed a true → Moves (length a) f → suc n ≤ length (recordsIn p a true)
@@ -103,24 +111,28 @@ module _ (more : List ℕ) where
         let b = bytes-first a true (Whole k) e n in
         let q : Read Request = requestOf (take (k - 2) (drop 2 a)) p in
         let r : recordsIn p a true ≡ q ∷ recordsIn p (drop k a) true = records-by p a true (Whole k) e in
-        let long : length (take (bytesOf (suc n) a true) a) ≡ bytesOf (suc n) a true = length-take-le (bytesOf (suc n) a true) a (omega (arith, l)) in
-        let g : Whole k ≡ framed (cutAt (suc n) a) true =
-        subst (Alike (length (cutAt (suc n) a)) (framed (cutAt (suc n) a) true)) (sym e) (alike-cut (bytesOf (suc n) a true) a (omega (arith, b, m .0)) (omega (arith, m .0, m .1)))
+        let long : length (take (bytesOf (suc n) a true) a) ≡ bytesOf (suc n) a true =
+        length-take-le (bytesOf (suc n) a true) a (omega (arith, l))
+        in
+        let g : Whole k ≡ framed (cutAt (suc n) a) ended =
+        subst (Alike (length (cutAt (suc n) a)) (framed (cutAt (suc n) a) ended)) (sym e)
+        (alike-cut (bytesOf (suc n) a true) a (omega (arith, b, m .0)) (omega (arith, m .0, m .1)))
         (omega (arith, length-append (take (bytesOf (suc n) a true) a) more, long, b))
         in
         first-cut n k a q (m .1) b r
-        (records-by p (cutAt (suc n) a) true (Whole k) g
-        ∙ ap (λ (s : List ℕ). requestOf s p ∷ recordsIn p (drop k (cutAt (suc n) a)) true) (same-bytes n k a q (m .1) b (m .0)))
-        (bytes-first (cutAt (suc n) a) true (Whole k) g n)
+        (records-by p (cutAt (suc n) a) ended (Whole k) g
+        ∙ ap (λ (s : List ℕ). requestOf s p ∷ recordsIn p (drop k (cutAt (suc n) a)) ended) (same-bytes n k a q (m .1) b (m .0)))
+        (bytes-first (cutAt (suc n) a) ended (Whole k) g n)
         (ih k (few-behind n q (recordsIn p a true) (recordsIn p (drop k a) true) r few) (omega (arith, l, b, length-drop k a)))
     cut-by n a (Skip k) e m few l ih =
         let b = bytes-first a true (Skip k) e n in
         let r : recordsIn p a true ≡ broken 0 ∷ recordsIn p (drop k a) true = records-by p a true (Skip k) e in
-        let g : Skip k ≡ framed (cutAt (suc n) a) true =
-        subst (Alike (length (cutAt (suc n) a)) (framed (cutAt (suc n) a) true)) (sym e) (alike-cut (bytesOf (suc n) a true) a (omega (arith, b, m .0)) (m .1))
+        let g : Skip k ≡ framed (cutAt (suc n) a) ended =
+        subst (Alike (length (cutAt (suc n) a)) (framed (cutAt (suc n) a) ended)) (sym e)
+        (alike-cut (bytesOf (suc n) a true) a (omega (arith, b, m .0)) (m .1))
         in
-        first-cut n k a (broken 0) (omega (arith, l, b)) b r (records-by p (cutAt (suc n) a) true (Skip k) g)
-        (bytes-first (cutAt (suc n) a) true (Skip k) g n)
+        first-cut n k a (broken 0) (omega (arith, l, b)) b r (records-by p (cutAt (suc n) a) ended (Skip k) g)
+        (bytes-first (cutAt (suc n) a) ended (Skip k) g n)
         (ih k (few-behind n (broken 0) (recordsIn p a true) (recordsIn p (drop k a) true) r few) (omega (arith, l, b, length-drop k a)))
     cut-by n a More e m few l ih = absurd (none-few n (recordsIn p a true) (records-by p a true More e) few)
     cut-by n a Cut e m few l ih = absurd (let b = bytes-first a true Cut e n in omega (arith, l, b))
@@ -129,5 +141,5 @@ module _ (more : List ℕ) where
     pub cut : (n : ℕ) (a : List ℕ) → n ≤ length (recordsIn p a true) → bytesOf n a true < length a → IsCut n a
     cut zero a few l =
         let z : cutAt 0 a ≡ more = ap (λ (j : ℕ). take j a ++ more) (bytes-zero a true) in
-        (ap (λ (s : List ℕ). recordsIn p s true) z, bytes-zero (cutAt 0 a) true ∙ sym (bytes-zero a true))
+        (ap (λ (s : List ℕ). recordsIn p s ended) z, bytes-zero (cutAt 0 a) ended ∙ sym (bytes-zero a true))
     cut (suc n) a few l = cut-by n a (framed a true) refl (moves a true) few l (λ k. cut n (drop k a))

@@ -2,11 +2,11 @@
 -- record, `Many` of a stream at hand, `Served` of a file, `Freshened` of a fresh store; `Came` is an input that comes in any pieces, through any
 -- buffers. `before` and `after` are the bytes of the lent store, `full` is document 01's store. docs/RULES.md lists the definitions to believe.
 -- Assumes nothing.
-use Prim.Native.Nat.{ℕ, _≤_, _<_}
+use Prim.Native.Nat.{ℕ, _+_, _≤_, _<_}
 use native.Mathlib.Omega.{arith}
 use mathlib.Core.Path.{_≡_, refl, sym, _∙_, ap, subst}
 use mathlib.Core.Bool.{Bool, true, false, cond, true≢false}
-use mathlib.Core.List.{List, [], _∷_, _++_, map}
+use mathlib.Core.List.{List, [], _∷_, _++_, map, append-nil}
 use mathlib.Core.Option.{Option, some}
 use lib.ListN.{length, take}
 use Rattle.values.specs.Bytes.{Bytes}
@@ -50,11 +50,12 @@ use Rattle.requests.proofs.Lending.{full-coded, sound-store}
 use Rattle.requests.proofs.Entries.{lines-for, unsound-refused, sound-answered}
 use Rattle.requests.proofs.Validity.{whole-readable, outcome-valid, valid-sound}
 use Rattle.serve.proofs.Pieces.{no-records}
-use Rattle.serve.proofs.Coming.{came-then, came-last, all-text, all-bytes}
+use Rattle.serve.proofs.Coming.{came-then, then-count, came-last, all-counted, all-text, all-bytes}
 use Rattle.serve.proofs.Doing.{came-doings}
 use Rattle.serve.proofs.Resting.{answering-start, rested-waiting, rested-stopped}
 use Rattle.serve.proofs.Serving.{store-sound, store-places}
 use Rattle.serve.proofs.Log.{came-mended}
+use Rattle.serve.proofs.Answered.{answered-again}
 use Rattle.serve.proofs.Replayed.{replayed}
 
 -- ==== DEMAND 1: any request bytes, any lent store: the store stays sound or stays as it was, and each refusal has a stated effect on its bytes
@@ -282,8 +283,8 @@ demand-3-others-one rec before after a n h l e sp =
     let k : parse full R after ≡ z = ap (parse full R) (sound-answered (wholeOf full rec) before after a l e .bytes) ∙ parse-image full full-known R (b .most) z (valid-laid v) in
     subst (Untouched n s) (sym k) (demand-3-others R s (wholeOf full rec) n sp)
 
--- ==== THE KIOSK'S LOG: it is replayed over a fresh store (`c`, a run that more may follow), its torn bytes are cut off, and as many as are missing
--- appended, whatever they are; then new input is appended to it and run over the store that the replay left (`d`)
+-- ==== THE KIOSK'S LOG: it is replayed over a fresh store (`c`, a run that more may follow), its torn bytes are cut off, and as many as are
+-- missing appended, whatever they are; then new input is appended to it and run over the store that the replay left (`d`)
 
 -- a store keeps its number of row places from one run to the next
 pub places-stay : (before after : List ℕ) (last : Bool) (r : Report) → Served full before after last r → sound full before ≡ true
@@ -292,10 +293,12 @@ places-stay before after last r s h =
     let c = s .ran h in
     ap (placesOf full) (sym (c .store)) ∙ store-places full (placesOf full before) (c .end .store) (c .came .store)
 
-still-open : (R : ℕ) (before after : List ℕ) (r : Report) (c : Course full R before after false r) → Came full R false (start before) (c .read) (c .end) (c .wrote)
+still-open : (R : ℕ) (before after : List ℕ) (r : Report) (c : Course full R before after false r)
+    → Came full R false (start before) (c .read) (c .end) (c .wrote)
 still-open R before after r c = subst (λ (b : Bool). Came full R b (start before) (c .read) (c .end) (c .wrote)) (c .goes-on refl) (c .came)
 
-module _ (R : ℕ) (fresh now : List ℕ) (r : Report) (c : Course full R fresh now false r) (fill : List ℕ) (filled : length fill ≡ r .missing) where
+module _ (R : ℕ) (fresh now : List ℕ) (r : Report) (c : Course full R fresh now false r) (fill : List ℕ)
+    (filled : length fill ≡ r .missing) where
   abbrev first : State
   first = parse full R fresh
 
@@ -311,12 +314,15 @@ module _ (R : ℕ) (fresh now : List ℕ) (r : Report) (c : Course full R fresh 
   log-mended =
       subst (λ (l : List ℕ). Came full R false (start fresh) kept (start now) l) (lines-for R first (recordsIn full kept true))
       (subst (λ (s : List ℕ). Came full R false (start fresh) kept (start s) (textOf full R first (recordsIn full kept true) 0)) (c .store)
-      (subst (λ (n : ℕ). Came full R false (start fresh) (mended (c .read) n fill) (start (c .end .store)) (textOf full R first (recordsIn full (mended (c .read) n fill) true) 0)) (sym (c .torn))
+      (subst (λ (n : ℕ). Came full R false (start fresh) (mended (c .read) n fill) (start (c .end .store))
+      (textOf full R first (recordsIn full (mended (c .read) n fill) true) 0)) (sym (c .torn))
       (came-mended full R fresh (c .read) (c .end) (c .wrote) (still-open R fresh now r c) fill (filled ∙ c .missing) (c .passing))))
 
   -- so the replay leaves the store of the kept log's records
   pub log-kept : now ≡ image full R (stateOf full R first (recordsIn full kept true))
-  log-kept = demand-2-whole R fresh kept (start now) earlier (came-last full R (start fresh) (start now) kept earlier log-mended) (no-records full true) .1
+  log-kept =
+      demand-2-whole R fresh kept (start now) earlier (came-last full R (start fresh) (start now) kept earlier log-mended)
+      (no-records full true) .1
 
   -- and the two runs are one run over the kept log and the new input joined, at every moment
   pub log-joined : (ended : Bool) (input : List ℕ) (z : Standing) (wrote : List ℕ) → Came full R ended (start now) input z wrote
@@ -324,13 +330,46 @@ module _ (R : ℕ) (fresh now : List ℕ) (r : Report) (c : Course full R fresh 
   log-joined ended input z wrote d =
       came-then full R false ended (start fresh) (start now) z kept input earlier wrote log-mended d (λ e. absurd (true≢false (sym e)))
 
-  -- in bytes: the lines of the second run follow those of the log, and the store is that of the records that were carried out,
+  -- it has carried out the records of the kept log, and those of the new input that the second run has
+  abbrev reached : ℕ → ℕ
+  reached n = length (recordsIn full kept true) + n
+
+  joined-count : (ended : Bool) (input : List ℕ) (z : Standing) (wrote : List ℕ) (d : Came full R ended (start now) input z wrote)
+      → log-joined ended input z wrote d .count ≡ reached (d .count)
+  unfolding log-joined
+  joined-count ended input z wrote d =
+      then-count full R false ended (start fresh) (start now) z kept input earlier wrote log-mended d (λ e. absurd (true≢false (sym e)))
+      ∙ ap (λ (n : ℕ). n + d .count) (all-counted full R false (start fresh) (start now) kept earlier log-mended (no-records full true))
+
+  -- in bytes: the lines of the second run follow those of the log, and the store is that of the records that were carried out
   pub log-front : (ended : Bool) (input : List ℕ) (z : Standing) (wrote more : List ℕ) (d : Came full R ended (start now) input z wrote)
       → (ended ≡ true → more ≡ [])
       → (rest : List ℕ) × (linesFor R first (recordsIn full ((kept ++ input) ++ more) true) ≡ (earlier ++ wrote) ++ rest)
-      × (z .store ≡ image full R (stateOf full R first (take (log-joined ended input z wrote d .count) (recordsIn full ((kept ++ input) ++ more) true))))
+      × (z .store ≡ image full R (stateOf full R first (take (reached (d .count)) (recordsIn full ((kept ++ input) ++ more) true))))
   log-front ended input z wrote more d e =
-      demand-2-front R ended fresh (kept ++ input) z (earlier ++ wrote) more (log-joined ended input z wrote d) e
+      let t = demand-2-front R ended fresh (kept ++ input) z (earlier ++ wrote) more (log-joined ended input z wrote d) e in
+      let ws : List (Read Request) = recordsIn full ((kept ++ input) ++ more) true in
+      (t .0, t .1, t .2 ∙ ap (λ (n : ℕ). image full R (stateOf full R first (take n ws))) (joined-count ended input z wrote d))
+
+  -- after a power cut: whatever else was appended, the next replay carries out each record that was answered, in the same order
+  pub log-answered : (input : List ℕ) (z : Standing) (wrote : List ℕ) (d : Came full R false (start now) input z wrote)
+      → (rest again : List ℕ) (x : Report) (e : Course full R fresh again false x) → e .read ≡ (kept ++ input) ++ rest → x .end ≡ Whole
+      → let ws = recordsIn full ((kept ++ input) ++ rest) true in
+      (m : ℕ) × (reached (d .count) ≤ m) × (z .store ≡ image full R (stateOf full R first (take (reached (d .count)) ws)))
+      × (again ≡ image full R (stateOf full R first (take m ws)))
+  log-answered input z wrote d rest again x e same w =
+      let all : List ℕ = (kept ++ input) ++ rest in
+      let a = subst (λ (l : List ℕ). Came full R false (start fresh) l (e .end) (e .wrote)) same (still-open R fresh again x e) in
+      let never : (l : List ℕ) → false ≡ true → l ≡ [] = λ l f. absurd (true≢false (sym f)) in (
+        a .count,
+        subst (λ (n : ℕ). n ≤ a .count) (joined-count false input z wrote d)
+            (answered-again full R fresh (kept ++ input) rest z (earlier ++ wrote) (log-joined false input z wrote d) (e .end) (e .wrote) a
+            (e .passing) (e .rests w refl)),
+        log-front false input z wrote rest d (never rest) .2,
+        sym (e .store)
+            ∙ demand-2-front R false fresh all (e .end) (e .wrote) [] a (never []) .2
+            ∙ ap (λ (l : List ℕ). image full R (stateOf full R first (take (a .count) (recordsIn full l true)))) (append-nil all),
+      )
 
   -- to the end of the new input
   module _ (after : List ℕ) (q : Report) (d : Course full R now after true q) (whole : q .end ≡ Whole) where
@@ -345,11 +384,13 @@ module _ (R : ℕ) (fresh now : List ℕ) (r : Report) (c : Course full R fresh 
         let t = demand-2-whole R fresh (kept ++ d .read) (d .end) (earlier ++ d .wrote) joined-whole (d .done whole refl .1) in
         (t .0, sym (d .store) ∙ t .1)
 
-    -- the next replay, of the log with what was appended, leaves the store that answered, though a record that was cut off and answered is torn there
-    pub log-again : (again : List ℕ) (x : Report) (e : Course full R fresh again false x) → e .read ≡ kept ++ d .read → x .end ≡ Whole → again ≡ after
+    -- the next replay, of the log with what was appended, leaves the store that answered: a record cut off and refused is torn there
+    pub log-again : (again : List ℕ) (x : Report) (e : Course full R fresh again false x) → e .read ≡ kept ++ d .read → x .end ≡ Whole
+        → again ≡ after
     log-again again x e same w =
         sym (e .store)
-        ∙ replayed full R fresh (e .read) (e .end) (e .wrote) (still-open R fresh again x e) (e .passing) (e .rests w refl) (d .end) (earlier ++ d .wrote)
+        ∙ replayed full R fresh (e .read) (e .end) (e .wrote) (still-open R fresh again x e) (e .passing) (e .rests w refl) (d .end)
+        (earlier ++ d .wrote)
         (subst (λ (l : List ℕ). Came full R true (start fresh) l (d .end) (earlier ++ d .wrote)) (sym same) joined-whole)
         (d .done whole refl .1)
         ∙ d .store

@@ -8,5 +8,6 @@ pub mod Resting
 pub mod Serving
 pub mod Doing
 pub mod Log
+pub mod Answered
 pub mod Replayed
 pub mod Demands

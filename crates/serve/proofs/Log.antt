@@ -45,7 +45,9 @@ module _ (p : Profile) (R : ℕ) (s log : List ℕ) (y : Standing) (v : List ℕ
 
   ends : b + length (y .hand) ≡ length log + length fill
   ends =
-      let l : length (drop (y .skip) (y .hand ++ (fill ++ (0 ∷ [])))) ≡ length (drop b longer) = ap length (c .place (fill ++ (0 ∷ [])) never) in
+      let l : length (drop (y .skip) (y .hand ++ (fill ++ (0 ∷ [])))) ≡ length (drop b longer) =
+      ap length (c .place (fill ++ (0 ∷ [])) never)
+      in
       let m = simp (length-drop, length-append) at l in
       omega (arith, m, filled)
 
@@ -58,7 +60,8 @@ module _ (p : Profile) (R : ℕ) (s log : List ℕ) (y : Standing) (v : List ℕ
           let k : b ≡ length log - length (y .hand) = omega (arith, ends, z) in
           take-append-le b log (fill ++ (0 ∷ [])) (omega (arith, k))
           ∙ ap (λ (j : ℕ). take j log) k
-          ∙ sym (ap (λ (l : List ℕ). take (length log - length (y .hand)) log ++ l) (drop-of-length-le fill {i = 0} (omega (arith, z))) ∙ append-nil (take (length log - length (y .hand)) log))
+          ∙ sym (ap (λ (l : List ℕ). take (length log - length (y .hand)) log ++ l)
+          (drop-of-length-le fill {i = 0} (omega (arith, z))) ∙ append-nil (take (length log - length (y .hand)) log))
       go false e =
           let z : length (y .hand) ≡ 0 = ap length (passing (eqb-false (y .skip) 0 e)) in
           let k : b ≡ length log + length fill = omega (arith, ends, z) in
@@ -80,20 +83,21 @@ module _ (p : Profile) (R : ℕ) (s log : List ℕ) (y : Standing) (v : List ℕ
   counted : length us ≡ n
   counted = length-take-le n (recordsIn p longer true) (c .few (fill ++ (0 ∷ [])) never)
 
-  all-is : (more : List ℕ) → recordsIn p (kept ++ more) true ≡ us ++ recordsIn p more true
-  all-is more =
-      ap (λ (l : List ℕ). recordsIn p (l ++ more) true) (sym is-kept) ∙ cut more p n longer (c .few (fill ++ (0 ∷ [])) never) inside .0
+  all-is : (more : List ℕ) (ended : Bool) → recordsIn p (kept ++ more) ended ≡ us ++ recordsIn p more ended
+  all-is more ended =
+      ap (λ (l : List ℕ). recordsIn p (l ++ more) ended) (sym is-kept)
+      ∙ cut more ended p n longer (c .few (fill ++ (0 ∷ [])) never) inside .0
 
-  kept-is : recordsIn p kept true ≡ us
-  kept-is =
-      ap (λ (l : List ℕ). recordsIn p l true) (sym (append-nil kept))
-      ∙ all-is []
-      ∙ ap (λ (ws : List (Read Request)). us ++ ws) (no-records p true)
+  kept-is : (ended : Bool) → recordsIn p kept ended ≡ us
+  kept-is ended =
+      ap (λ (l : List ℕ). recordsIn p l ended) (sym (append-nil kept))
+      ∙ all-is [] ended
+      ∙ ap (λ (ws : List (Read Request)). us ++ ws) (no-records p ended)
       ∙ append-nil us
 
   bytes-are : (more : List ℕ) → bytesOf n (kept ++ more) true ≡ b
   bytes-are more =
-      ap (λ (l : List ℕ). bytesOf n (l ++ more) true) (sym is-kept) ∙ cut more p n longer (c .few (fill ++ (0 ∷ [])) never) inside .1
+      ap (λ (l : List ℕ). bytesOf n (l ++ more) true) (sym is-kept) ∙ cut more true p n longer (c .few (fill ++ (0 ∷ [])) never) inside .1
 
   state-is : parse p R (y .store) ≡ stateOf p R (parse p R s) us
   state-is = c .state (fill ++ (0 ∷ [])) never
@@ -104,16 +108,20 @@ module _ (p : Profile) (R : ℕ) (s log : List ℕ) (y : Standing) (v : List ℕ
       text-then p R (parse p R s) us ws 0
       ∙ ap (λ (i : ℕ). textOf p R (parse p R s) us 0 ++ textOf p R (stateOf p R (parse p R s) us) ws i) (either-way (isNil us) 0)
       ∙ ap (λ (st : State). textOf p R (parse p R s) us 0 ++ textOf p R st ws 0) (sym state-is)
-      ∙ ap (λ (vs : List (Read Request)). textOf p R (parse p R s) vs 0 ++ textOf p R (parse p R (y .store)) ws 0) (sym kept-is)
+      ∙ ap (λ (vs : List (Read Request)). textOf p R (parse p R s) vs 0 ++ textOf p R (parse p R (y .store)) ws 0) (sym (kept-is true))
 
   pub came-mended : Came p R false (start s) kept (start (y .store)) (textOf p R (parse p R s) (recordsIn p kept true) 0)
   came-mended =
       record {
         store = c .store;
         count = n;
-        few = λ more e. subst (λ (ws : List (Read Request)). n ≤ length ws) (sym (all-is more)) (rw (length-append us (recordsIn p more true)) (omega (arith, counted)));
-        others = λ more e. sym (ap (drop n) (all-is more) ∙ drop-at us (recordsIn p more true) n counted);
+        held = subst (λ (ws : List (Read Request)). n ≤ length ws) (sym (kept-is false)) (omega (arith, counted));
+        few = λ more e. subst (λ (ws : List (Read Request)). n ≤ length ws) (sym (all-is more true))
+            (rw (length-append us (recordsIn p more true)) (omega (arith, counted)));
+        others = λ more e. sym (ap (drop n) (all-is more true) ∙ drop-at us (recordsIn p more true) n counted);
         place = λ more e. sym (ap (λ (j : ℕ). drop j (kept ++ more)) (bytes-are more) ∙ drop-at kept more b long);
-        state = λ more e. state-is ∙ ap (stateOf p R (parse p R s)) (sym (ap (take n) (all-is more) ∙ take-at us (recordsIn p more true) n counted));
-        text = λ more e. ap (λ (ws : List (Read Request)). textOf p R (parse p R s) ws 0) (all-is more) ∙ text-is (recordsIn p more true);
+        state = λ more e. state-is
+            ∙ ap (stateOf p R (parse p R s)) (sym (ap (take n) (all-is more true) ∙ take-at us (recordsIn p more true) n counted));
+        text = λ more e. ap (λ (ws : List (Read Request)). textOf p R (parse p R s) ws 0) (all-is more true)
+            ∙ text-is (recordsIn p more true);
       }

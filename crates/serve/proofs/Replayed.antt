@@ -1,13 +1,11 @@
 -- A replay of what a run has read leaves the store that the run left: a torn record at the end changes nothing. Assumes nothing.
-use Prim.Native.Nat.{ℕ, zero, suc, _+_}
+use Prim.Native.Nat.{ℕ, suc, _+_}
 use native.Mathlib.Omega.{arith}
 use mathlib.Core.Path.{_≡_, refl, sym, _∙_, ap, subst}
 use mathlib.Core.Bool.{Bool, true, false}
 use mathlib.Core.List.{List, [], _∷_, _++_, append-nil}
-use lib.Dec.{eqb, ltb}
+use lib.Dec.{ltb}
 use lib.ListN.{length, take, drop, take-append-drop}
-use lib.Seq.{drop-nil}
-use borrow.Author.Tests.{eqb-true, eqb-false}
 use Rattle.forms.specs.Read.{Read, broken}
 use Rattle.rules.specs.declared.profile.Profile.{Profile}
 use Rattle.rules.specs.State.{State}
@@ -20,10 +18,11 @@ use Rattle.records.specs.Frame.{framed, lengthOf, leastLength, mostLength}
 use Rattle.operations.specs.Told.{outcomeOf}
 use Rattle.requests.specs.Stream.{recordsIn, stateOf}
 use Rattle.requests.proofs.Running.{records-by}
-use Rattle.serve.specs.Course.{Standing, start, left, Came}
-use Rattle.serve.proofs.Pieces.{tested, framed-two, no-records}
+use Rattle.serve.specs.Course.{Standing, start, ahead, left, Came}
+use Rattle.serve.proofs.Pieces.{tested, framed-two}
 use Rattle.serve.proofs.Texts.{state-then}
 use Rattle.serve.proofs.Coming.{all-bytes}
+use Rattle.serve.proofs.Answered.{none-ahead}
 
 -- ---- where no whole record is at hand, what is at hand changes nothing: at the end of the input it is cut off, or nothing is there
 
@@ -59,6 +58,9 @@ ends-frame (x ∷ y ∷ a) =
     (subst (Ends (tested (ltb k leastLength) (ltb mostLength k) (ltb (length s) (2 + k)) (2 + k) true)) (framed-two s false (omega arith))
     (ends-tested (ltb k leastLength) (ltb mostLength k) (ltb (length s) (2 + k)) (2 + k)))
 
+some-whole : (q : Read Request) (ws : List (Read Request)) → q ∷ ws ≡ [] → ⊥
+some-whole q ws e = let z : _≡_ {A = ℕ} (suc (length ws)) 0 = ap length e in absurd (omega arith)
+
 module _ (p : Profile) (R : ℕ) where
   no-change : (st : State) (x : ℕ) → stateOf p R st (broken x ∷ []) ≡ st
   unfolding stateOf outcomeOf applyAll
@@ -75,9 +77,6 @@ module _ (p : Profile) (R : ℕ) where
   over-by s Cut e h st = ap (stateOf p R st) (records-by p s true Cut e) ∙ no-change st 0
   over-by s Done e h st = ap (stateOf p R st) (records-by p s true Done e) ∙ no-state st
 
-  some-whole : (q : Read Request) (ws : List (Read Request)) → q ∷ ws ≡ [] → ⊥
-  some-whole q ws e = let z : _≡_ {A = ℕ} (suc (length ws)) 0 = ap length e in absurd (omega arith)
-
   torn-by : (s : List ℕ) (f : Framed) → f ≡ framed s false → Ends (framed s true) f → recordsIn p s false ≡ []
       → (st : State) → stateOf p R st (recordsIn p s true) ≡ st
   torn-by s (Whole k) e h n st = absurd (some-whole _ _ (sym (records-by p s false (Whole k) e) ∙ n))
@@ -93,18 +92,7 @@ module _ (p : Profile) (R : ℕ) where
   module _ (s log : List ℕ) (y : Standing) (v : List ℕ) (c : Came p R false (start s) log y v) (passing : (y .skip ≡ 0 → ⊥) → y .hand ≡ [])
       (none : recordsIn p (y .hand) false ≡ []) where
     left-torn : (st : State) → stateOf p R st (left p y []) ≡ st
-    left-torn st = go (eqb (y .skip) 0) refl
-      where
-        go : (b : Bool) → eqb (y .skip) 0 ≡ b → stateOf p R st (left p y []) ≡ st
-        go true e =
-            ap (λ (l : List ℕ). stateOf p R st (recordsIn p (drop (y .skip) l) true)) (append-nil (y .hand))
-            ∙ ap (λ (k : ℕ). stateOf p R st (recordsIn p (drop k (y .hand)) true)) (eqb-true (y .skip) 0 e)
-            ∙ torn-changes-nothing (y .hand) none st
-        go false e =
-            ap (λ (l : List ℕ). stateOf p R st (recordsIn p (drop (y .skip) (l ++ [])) true)) (passing (eqb-false (y .skip) 0 e))
-            ∙ ap (λ (l : List ℕ). stateOf p R st (recordsIn p l true)) (drop-nil (y .skip))
-            ∙ ap (stateOf p R st) (no-records p true)
-            ∙ no-state st
+    left-torn = torn-changes-nothing (ahead y []) (none-ahead p R s log y v c passing none)
 
     pub replayed : (z : Standing) (w : List ℕ) → Came p R true (start s) log z w → left p z [] ≡ [] → y .store ≡ z .store
     replayed z w d all =

@@ -112,7 +112,8 @@ module _ (p : Profile) (R : ℕ) (f : Flow) (before input : List ℕ) where
     none-held : t .ran .halt ≡ Waiting → recordsIn p (hand (t .flow) rest) false ≡ []
     none-held e =
         ap (λ (s : List ℕ). recordsIn p s false) (turn .hand)
-        ∙ subst (λ (b : Bool). recordsIn p (drop (t .ran .taken) (drop (g .skip) (hand g kept))) b ≡ []) (turn .ran .waits e .0) (turn .ran .rest ∙ turn .ran .waits e .1)
+        ∙ subst (λ (b : Bool). recordsIn p (drop (t .ran .taken) (drop (g .skip) (hand g kept))) b ≡ []) (turn .ran .waits e .0)
+        (turn .ran .rest ∙ turn .ran .waits e .1)
 
     short-hand : t .ran .halt ≡ Waiting → t .flow .have < recordMost
     short-hand e =

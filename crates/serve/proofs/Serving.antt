@@ -107,7 +107,8 @@ module _ (p : Profile) (R : ℕ) (before : List ℕ) where
           let at : Standing = standing now f input in
           let grown : Standing = standing now (t .flow) mid in
           came-then p R false (t .flow .ended) (start before) grown next (h .read ++ piece) [] (h .wrote ++ []) (rest .wrote)
-          (came-then p R false false (start before) at grown (h .read) piece (h .wrote) [] (h .came) (came-taken p R f now input mid t took (h .came .store)) (λ e. absurd (never e)))
+          (came-then p R false false (start before) at grown (h .read) piece (h .wrote) [] (h .came)
+          (came-taken p R f now input mid t took (h .came .store)) (λ e. absurd (never e)))
           (rest .came)
           (λ e. absurd (never e))
 
@@ -125,7 +126,8 @@ module _ (p : Profile) (R : ℕ) (before : List ℕ) where
           }
 
       -- where more may follow, it goes on only before the end
-      pub course-after : (last : Bool) → (last ≡ false → t .flow .ended ≡ false) → (x : Report) → x .torn ≡ r .flow .have → x .missing ≡ r .flow .skip → (x .end ≡ Whole → r .pause ≡ Stopped) → Course p R before after last x
+      pub course-after : (last : Bool) → (last ≡ false → t .flow .ended ≡ false) → (x : Report) → x .torn ≡ r .flow .have
+          → x .missing ≡ r .flow .skip → (x .end ≡ Whole → r .pause ≡ Stopped) → Course p R before after last x
       course-after last on x torn missing w =
           record {
             read = (h .read ++ piece) ++ [];
@@ -151,7 +153,8 @@ store-sound p R s b =
 
 pub store-places : (p : Profile) (R : ℕ) (s : List ℕ) → Store p R s → placesOf p s ≡ R
 store-places p R s b =
-    ap (placesOf p) (b .bytes) ∙ places-image p (b .coded .known) R (b .places) (parse p R s) (valid-laid (valid-is p R (parse p R s) (b .valid)))
+    ap (placesOf p) (b .bytes)
+    ∙ places-image p (b .coded .known) R (b .places) (parse p R s) (valid-laid (valid-is p R (parse p R s) (b .valid)))
 
 -- ---- tested once
 

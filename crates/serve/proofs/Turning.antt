@@ -71,7 +71,7 @@ module _ (p : Profile) (R : ℕ) (a : List ℕ) (i : ℕ) (before after out done
             ∙ ap (λ (l : List ℕ). bytesOf n l true) (append-nil a)
             ∙ ap (bytesOf n a) (sym t)
         go false t =
-            same-bytes p more n a (subst (λ (b : Bool). n ≤ length (recordsIn p a b)) t (run .few)) ∙ ap (bytesOf n a) (sym t)
+            same-bytes p more true n a (subst (λ (b : Bool). n ≤ length (recordsIn p a b)) t (run .few)) ∙ ap (bytesOf n a) (sym t)
 
     pub place-behind : (more : List ℕ) → (ended ≡ true → more ≡ []) → behind more ≡ drop (bytesOf n (a ++ more) true) (a ++ more)
     place-behind more e = behind-is more ∙ ap (λ (k : ℕ). drop k (a ++ more)) (sym (bytes-held more e))
@@ -106,7 +106,7 @@ module _ (p : Profile) (R : ℕ) (a : List ℕ) (i : ℕ) (before after out done
     rest = recordsIn p (behind more) true
 
     all-is : recordsIn p (a ++ more) true ≡ take n ws ++ rest
-    all-is = split p more n a (run .few) ∙ ap (λ (l : List ℕ). take n ws ++ recordsIn p l true) (sym (behind-is false run more))
+    all-is = split p more true n a (run .few) ∙ ap (λ (l : List ℕ). take n ws ++ recordsIn p l true) (sym (behind-is false run more))
 
     count-is : length (take n ws) ≡ n
     count-is = length-take-le n ws (run .few)
@@ -305,6 +305,9 @@ module _ (p : Profile) (R : ℕ) (f : Flow) (before after input kept out done : 
       record {
         store = turn .ran .kept;
         count = r .count;
+        held =
+            subst (λ (l : List ℕ). r .count ≤ length (recordsIn p (drop (f .skip) l) (f .ended))) (sym (append-nil (hand f input)))
+            (turn .ran .few);
         few = λ more h. o more h .few;
         others = λ more h. o more h .others;
         place = turn-place (eqb d 0) refl;
@@ -317,7 +320,9 @@ module _ (p : Profile) (R : ℕ) (f : Flow) (before after input kept out done : 
   turn-passing h = turn .hand ∙ go (eqb d 0) refl
     where
       go : (b : Bool) → eqb d 0 ≡ b → drop (r .taken) a ≡ []
-      go true e = all-taken p R a (f .lines) before after out done r (f .ended) (turn .ran) (λ z. h (turn .skip ∙ ap (λ (b : Bool). cond b (r .skip) d) e ∙ z))
+      go true e =
+          all-taken p R a (f .lines) before after out done r (f .ended) (turn .ran)
+          (λ z. h (turn .skip ∙ ap (λ (b : Bool). cond b (r .skip) d) e ∙ z))
       go false e = none-behind (eqb-false d 0 e)
 
   -- ---- what is left of the records at hand, and of their text

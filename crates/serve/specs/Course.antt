@@ -51,11 +51,13 @@ left p x more = recordsIn p (ahead x more) true
 abbrev pub textLeft : Profile → ℕ → Standing → List ℕ → List ℕ
 textLeft p R x more = textOf p R (parse p R (x .store)) (left p x more) (x .lines)
 
--- from x, `read` was read and `wrote` written, and y stands: whatever more follows (nothing where the input has ended), `count` records are carried
--- out, the others are left and stand behind the bytes of the first, and the text is what was written and what is left
+-- from x, `read` was read and `wrote` written, and y stands: `count` records of what was read are carried out; whatever more follows
+-- (nothing where the input has ended), they are the first ones, the others are left and stand behind their bytes, and the text is what was
+-- written and what is left
 pub record Came (p : Profile) (R : ℕ) (ended : Bool) (x : Standing) (read : List ℕ) (y : Standing) (wrote : List ℕ) : Type 0 where
   pub store : Store p R (y .store)
   pub count : ℕ
+  pub held : count ≤ length (recordsIn p (ahead x read) ended)
   pub few : (more : List ℕ) → (ended ≡ true → more ≡ []) → count ≤ length (left p x (read ++ more))
   pub others : (more : List ℕ) → (ended ≡ true → more ≡ []) → left p y more ≡ drop count (left p x (read ++ more))
   pub place : (more : List ℕ) → (ended ≡ true → more ≡ [])
@@ -85,8 +87,8 @@ pub record Rested (p : Profile) (R : ℕ) (f : Flow) (before after input kept : 
   pub waits : r .pause ≡ Waiting → (f .ended ≡ false) × (r .flow .have < recordMost) × (recordsIn p (hand (r .flow) kept) false ≡ [])
   pub stops : r .pause ≡ Stopped → (f .ended ≡ true) × (left p (standing after (r .flow) kept) [] ≡ [])
 
--- ---- a run over a sound store: some input was read, some text written; where bytes are missing, none is at hand; where all is done, nothing is
--- left, or where more may follow, no whole record
+-- ---- a run over a sound store: some input was read, some text written; where bytes are missing, none is at hand; where all is done,
+-- nothing is left, or where more may follow (the input has not ended then), no whole record
 
 pub record Course (p : Profile) (R : ℕ) (before after : List ℕ) (last : Bool) (r : Report) : Type 0 where
   pub read : List ℕ
