@@ -1,4 +1,6 @@
 // Whether a record begins anywhere in a file.
+use records::frame;
+use records::frame::Framed;
 use values::bytes;
 
 // What stands at a place of a file: what can begin a record, something else, its end, or what can't be read.
@@ -9,14 +11,13 @@ pub enum Seen {
     Failed,
 }
 
-// Whether the bytes, four or the fewer that a file ends with, can begin a record: length 2 to 4,096, version byte 1, operation 1 to 15.
+// Whether the bytes, four or the fewer that a file ends with, can begin a record: no bad length, version byte 1, operation 1 to 15.
 fn can_begin(head: &[u8]) -> bool {
     let n = head.len();
     if n < 2 {
         return n == 1 && head[0] <= 16;
     }
-    let size = bytes::get(&head[0..2]);
-    if size < 2 || 4096 < size {
+    if let Framed::Skip(_) = frame::next_record(head, false) {
         return false;
     }
     if n == 2 {

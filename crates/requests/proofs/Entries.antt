@@ -1,9 +1,8 @@
 -- What the entries promise, in the rules' words: the lines of a stream, the state behind it, what is accepted, what is unchanged. Assumes nothing.
-use Prim.Native.Nat.{ℕ, _≤_}
+use Prim.Native.Nat.{ℕ}
 use mathlib.Core.Path.{_≡_, refl, sym, _∙_, ap, subst}
 use mathlib.Core.Bool.{Bool, true, false, true≢false}
 use mathlib.Core.List.{List, [], _∷_, _++_}
-use lib.ListN.{take}
 use Rattle.forms.specs.Read.{Read, got, broken}
 use Rattle.rules.specs.declared.answer.Answer.{Answer}
 use Rattle.rules.specs.declared.answer.Refusal.the-variants.{RecordBroken, StoreUnsound}
@@ -14,7 +13,7 @@ use Rattle.rules.specs.Request.{Request, Reply, said, no}
 use Rattle.rules.specs.Step.{Outcome, applyAll, isAccepted, step, after, run, runAfter}
 use Rattle.rules.specs.Sound.{every, sound}
 use Rattle.rules.proofs.Whole.{image-parse}
-use Rattle.laid.specs.Store.{Store, Stored}
+use Rattle.laid.specs.Store.{Stored}
 use Rattle.mapping.specs.Got.{isGot}
 use Rattle.requests.specs.Lines.{rowLines, answerLine, linesOf, stream}
 use Rattle.requests.specs.Places.{textFrom}
@@ -99,14 +98,9 @@ pub stored-one : (R : ℕ) (o : Outcome) (before after after′ : List ℕ) (a b
     → (said a ≡ said b) × (after ≡ after′)
 stored-one R o before after after′ a b l m = (l .answer ∙ sym (m .answer), l .bytes ∙ sym (m .bytes))
 
--- ---- a broken record is refused with 1 and leaves every byte as it was
+-- ---- a broken record is refused and leaves every byte as it was
 
-pub refused-unchanged : (R : ℕ) (x : ℕ) (before after : List ℕ) (a : Answer) → Store full R before
-    → Stored full R (outcomeOf full R (parse full R before) (broken x)) before after a → (said a ≡ no RecordBroken 0) × (after ≡ before)
-unfolding outcomeOf applyAll
-refused-unchanged R x before after a s l = (l .answer, l .bytes ∙ sym (s .bytes))
-
--- a lent store too, sound or not: refused, with 1 or 38
+-- whether the store is sound or not: with 1 or 38
 pub lent-unchanged : (x : ℕ) (before after : List ℕ) (a : Answer) → Lent full (broken x) before after a → (isAccepted (said a) ≡ false) × (after ≡ before)
 unfolding outcomeOf applyAll
 lent-unchanged x before after a l = go (sound full before) refl

@@ -1,14 +1,13 @@
--- A record of bytes that is read says a readable request, so records keep a valid state valid; what a lent store is promised where it is sound
+-- A record of bytes that is read says a readable request, so it keeps a valid state valid; what a lent store is promised where it is sound
 -- and where it is not. Assumes nothing.
-use Prim.Native.Nat.{ℕ, zero, suc, _+_, _-_, _≤_, _<_}
+use Prim.Native.Nat.{ℕ, _+_, _-_, _≤_, _<_}
 use mathlib.Core.Path.{_≡_, sym, _∙_, ap, subst}
 use mathlib.Core.Bool.{Bool, true, false, cond}
-use mathlib.Core.List.{List, [], _∷_}
+use mathlib.Core.List.{List}
 use lib.Dec.{eqb}
-use lib.ListN.{length, take, drop}
+use lib.ListN.{length, drop}
 use lib.Seq.{getD-drop}
 use Rattle.values.specs.Bytes.{Bytes}
-use Rattle.areas.specs.Sorted.{All}
 use Rattle.forms.specs.Read.{Read, got, broken}
 use Rattle.rules.specs.declared.profile.Profile.{Profile}
 use Rattle.rules.specs.declared.answer.Answer.{Answer}
@@ -23,7 +22,6 @@ use Rattle.rules.specs.Readable.{readable}
 use Rattle.rules.proofs.Valid.{Valid, valid-of, valid-laid}
 use Rattle.rules.proofs.Tests.{by-cond}
 use Rattle.rules.proofs.Kept.{step-valid}
-use Rattle.values.proofs.Packing.{take-bytes}
 use Rattle.rules.proofs.Whole.{sound-image}
 use Rattle.laid.specs.Store.{Stored}
 use Rattle.records.specs.declared.frame.Framed.{Framed}
@@ -31,7 +29,7 @@ use Rattle.records.specs.declared.frame.Framed.the-variants.{Whole, Skip, More,
 use Rattle.records.specs.Record.{requestOf}
 use Rattle.records.specs.Frame.{framed}
 use Rattle.operations.specs.Told.{outcomeOf}
-use Rattle.requests.specs.Stream.{wholeAs, wholeOf, lentOutcome, lentAfter, Lent, inFrame, someRecords, recordsIn, stateOf}
+use Rattle.requests.specs.Stream.{wholeAs, wholeOf, lentOutcome, lentAfter, Lent}
 use Rattle.mapping.proofs.Read.{Gives, gives, gives-broken, read-readable}
 
 -- ---- parts of bytes are bytes
@@ -40,29 +38,13 @@ bytes-drop : (n : ℕ) (s : List ℕ) → Bytes s → Bytes (drop n s)
 bytes-drop n s h i = subst (λ (x : ℕ). x < 256) (sym (getD-drop n s i 0)) (h (n + i))
 
 module _ (p : Profile) where
-  -- ---- what the records of bytes say is readable
+  -- ---- what a record of bytes says is readable
 
   abbrev pub Readable : Read Request → Type 0
   Readable w = Gives (λ q. readable p q ≡ true) w
 
   record-readable : (s : List ℕ) → Bytes s → Readable (requestOf s p)
   record-readable s h = gives (λ q. readable p q ≡ true) (requestOf s p) (λ q n e. read-readable s h p q n e)
-
-  frame-readable : (s : List ℕ) (f : Framed) (rest : ℕ → List (Read Request)) → Bytes s → ((k : ℕ) → All Readable (rest k)) → All Readable (inFrame p s f rest)
-  frame-readable s (Whole k) rest h g = (record-readable (take (k - 2) (drop 2 s)) (take-bytes (k - 2) (drop 2 s) (bytes-drop 2 s h)), g k)
-  frame-readable s (Skip k) rest h g = (gives-broken (λ q. readable p q ≡ true) 0, g k)
-  frame-readable s More rest h g = tt
-  frame-readable s Cut rest h g = (gives-broken (λ q. readable p q ≡ true) 0, tt)
-  frame-readable s Done rest h g = tt
-
-  some-readable : (n : ℕ) (s : List ℕ) (ended : Bool) → Bytes s → All Readable (someRecords p n s ended)
-  unfolding someRecords
-  some-readable zero s ended h = tt
-  some-readable (suc n) s ended h = frame-readable s (framed s ended) (λ k. someRecords p n (drop k s) ended) h (λ k. some-readable n (drop k s) ended (bytes-drop k s h))
-
-  pub input-readable : (input : List ℕ) (ended : Bool) → Bytes input → All Readable (recordsIn p input ended)
-  unfolding recordsIn
-  input-readable input ended h = some-readable (length input) input ended h
 
   whole-by : (rec : List ℕ) → Bytes rec → (f : Framed) → Readable (wholeAs p rec f)
   whole-by rec h (Whole n) =
@@ -76,19 +58,13 @@ module _ (p : Profile) where
   unfolding wholeOf
   whole-readable rec h = whole-by rec h (framed rec true)
 
-  -- ---- so records keep a valid state valid
+  -- ---- so a record keeps a valid state valid
 
   module _ (R : ℕ) where
     pub outcome-valid : (s : State) (w : Read Request) → Readable w → Valid p R s → Valid p R (applyAll ((outcomeOf p R s w) .changes) s)
     unfolding Gives outcomeOf applyAll after
     outcome-valid s (got q n) h ok = step-valid p R s q h ok
     outcome-valid s (broken x) h ok = ok
-
-    pub records-valid : (s : State) (k : ℕ) (ws : List (Read Request)) → All Readable ws → Valid p R s → Valid p R (stateOf p R s (take k ws))
-    unfolding stateOf
-    records-valid s zero ws h ok = ok
-    records-valid s (suc k) [] h ok = ok
-    records-valid s (suc k) (w ∷ ws) h ok = records-valid _ k ws (h .1) (outcome-valid s w (h .0) ok)
 
     pub valid-sound : Known p → 1 ≤ R → R ≤ placesMost → (s : State) → Valid p R s → sound p (image p R s) ≡ true
     valid-sound known least most s ok = sound-image p known R most s (valid-laid ok) (valid-of p R s ok) least

@@ -1,5 +1,5 @@
 -- How a run over an input in pieces goes on: nothing done, something read, one after the other. Assumes nothing.
-use Prim.Native.Nat.{ℕ, zero, _+_, _-_, _≤_}
+use Prim.Native.Nat.{ℕ, _+_, _-_, _≤_}
 use native.Mathlib.Omega.{arith}
 use mathlib.Core.Path.{_≡_, refl, sym, _∙_, ap, subst}
 use mathlib.Core.Bool.{Bool, true, false, true≢false}

@@ -7,7 +7,7 @@ use native.Mathlib.Omega.{arith}
 use mathlib.Core.Path.{_≡_, refl, sym, _∙_, ap, subst}
 use mathlib.Core.Bool.{Bool, true, false, cond, true≢false}
 use mathlib.Core.List.{List, [], _∷_, _++_, map, append-nil}
-use mathlib.Core.Option.{Option, some}
+use mathlib.Core.Option.{Option}
 use lib.ListN.{length, take}
 use Rattle.values.specs.Bytes.{Bytes}
 use Rattle.values.specs.Value.{Value, normalised}
@@ -17,12 +17,12 @@ use Rattle.rules.specs.declared.answer.Refusal.the-variants.{StoreUnsound}
 use Rattle.rules.specs.Profile.{full}
 use Rattle.rules.specs.State.{Name, State, empty}
 use Rattle.rules.specs.Layout.{image, parse, placesOf}
-use Rattle.rules.specs.Request.{Pair, Request, Insert, Update, enteredPair, Reply, said, ok, no}
+use Rattle.rules.specs.Request.{Pair, Request, Insert, Update, enteredPair, Reply, said, no}
 use Rattle.rules.specs.Step.{Change, Outcome, applyAll, isAccepted, pair, step, after}
 use Rattle.rules.specs.Refused.{oneOf, stayNumbers, inSteps}
 use Rattle.rules.specs.Stops.{outcomeAt, InsertStops, UpdateStops}
 use Rattle.rules.specs.Sound.{rightLength, sound}
-use Rattle.rules.specs.Frame.{names, Untouched}
+use Rattle.rules.specs.Frame.{Untouched}
 use Rattle.rules.specs.Demand.{Demand3}
 use Rattle.laid.specs.Store.{Store, Stored}
 use Rattle.sound.specs.Fresh.{Freshened}

@@ -9,7 +9,7 @@ use Rattle.laid.specs.Store.{Store}
 use Rattle.serve.specs.declared.flow.Flow.{Flow}
 use Rattle.serve.specs.declared.flow.Turn.{Turn}
 use Rattle.serve.specs.declared.Taken.{Taken}
-use Rattle.serve.specs.Flow.{hand, Turned}
+use Rattle.serve.specs.Flow.{Turned}
 use Rattle.serve.specs.Course.{Standing, standing, Came, TakenIn}
 use Rattle.serve.specs.Demanded.{Doing, reading, turning, Doings}
 use Rattle.serve.proofs.Coming.{came-nowhere, came-taken, came-then}

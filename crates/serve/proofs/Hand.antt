@@ -6,7 +6,7 @@ use mathlib.Core.Bool.{Bool, cond}
 use lib.Dec.{eqb}
 use mathlib.Core.List.{List, [], _∷_, _++_}
 use lib.ListN.{length, take, drop, replicate, length-drop, length-take, drop-of-length-le}
-use lib.Seq.{take-at, length-take-le, drop-append-le, take-add, drop-at}
+use lib.Seq.{take-at, length-take-le, take-add, drop-at}
 use borrow.Author.Tests.{ne-eqb}
 use Rattle.values.specs.Basic.{isNil}
 use Rattle.values.specs.Area.{closed}

@@ -3,7 +3,7 @@ use Prim.Native.Nat.{ℕ, zero, suc, _+_, _-_, _≤_, _<_, min}
 use native.Mathlib.Omega.{arith}
 use mathlib.Core.Path.{_≡_, refl, sym, _∙_, ap, subst}
 use mathlib.Core.Bool.{Bool, true, false, cond, true≢false}
-use mathlib.Core.List.{List, [], _∷_, _++_, append-nil}
+use mathlib.Core.List.{List, [], _∷_, _++_}
 use lib.Dec.{leb, ltb}
 use lib.ListN.{length, take, drop, length-append, length-drop, drop-of-length-le}
 use lib.Seq.{take-append-le, drop-append-le, drop-append-add, drop-drop, drop-length, length-take-le, take-all, drop-nil}
@@ -15,7 +15,7 @@ use Rattle.records.specs.declared.frame.Framed.{Framed}
 use Rattle.records.specs.declared.frame.Framed.the-variants.{Whole, Skip, More, Cut, Done}
 use Rattle.records.specs.Record.{requestOf}
 use Rattle.records.specs.Frame.{framed, lengthOf, leastLength, mostLength, short}
-use Rattle.requests.specs.Stream.{inFrame, someRecords, recordsIn, inBytes, bytesOf}
+use Rattle.requests.specs.Stream.{someRecords, recordsIn, inBytes, bytesOf}
 use Rattle.requests.proofs.Running.{Moves, moves, records-by}
 
 -- ---- a frame of the first piece that holds a record is the frame of the whole

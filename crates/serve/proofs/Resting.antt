@@ -1,32 +1,30 @@
 -- The records at hand answered turn by turn. Assumes nothing.
-use Prim.Native.Nat.{ℕ, zero, suc, _+_, _-_, _≤_, _<_}
+use Prim.Native.Nat.{ℕ, suc, _+_, _-_, _≤_, _<_}
 use native.Mathlib.Omega.{arith}
 use mathlib.Core.Path.{_≡_, refl, sym, _∙_, ap, subst}
-use mathlib.Core.Bool.{Bool, true, false, cond}
-use mathlib.Core.List.{List, [], _∷_, _++_, append-nil}
+use mathlib.Core.Bool.{Bool, false}
+use mathlib.Core.List.{List, [], _++_}
 use lib.Dec.{eqb, ltb}
 use lib.ListN.{length, take, drop, length-append}
 use lib.Seq.{length-take-le}
 use borrow.Author.Tests.{eqb-true, ltb-true, ltb-false}
-use Rattle.forms.specs.Read.{Read}
 use Rattle.rules.specs.declared.profile.Profile.{Profile}
-use Rattle.rules.specs.Request.{Request}
 use Rattle.rules.proofs.Tests.{by-cond}
 use Rattle.laid.specs.Store.{Store}
 use Rattle.records.specs.declared.frame.Framed.{Framed}
 use Rattle.records.specs.declared.frame.Framed.the-variants.{Whole, Skip, More, Cut, Done}
-use Rattle.records.specs.Frame.{framed, lengthOf, leastLength, mostLength, short}
+use Rattle.records.specs.Frame.{framed, lengthOf, leastLength, mostLength}
 use Rattle.requests.specs.declared.entry.Halt.the-variants.{Full, Waiting, Stopped}
-use Rattle.requests.specs.declared.entry.Ran.{Ran}
 use Rattle.requests.specs.Lines.{rowMost}
-use Rattle.requests.specs.Stream.{recordsIn, Runs}
+use Rattle.requests.specs.Stream.{recordsIn}
 use Rattle.requests.proofs.Running.{records-by}
 use Rattle.serve.specs.declared.flow.Flow.{Flow}
 use Rattle.serve.specs.declared.flow.Turn.{Turn}
+use Rattle.serve.specs.declared.End.the-variants.{Whole, Unsound, Unwritten}
+use Rattle.serve.specs.declared.Pause.{Pause}
 use Rattle.serve.specs.declared.Pause.the-variants as pause
-use Rattle.serve.specs.declared.Rest.{Rest}
 use Rattle.serve.specs.Flow.{hand, Turned}
-use Rattle.serve.specs.Course.{Standing, standing, left, recordMost, Came, Rested}
+use Rattle.serve.specs.Course.{standing, recordMost, Came, Rested}
 use Rattle.serve.proofs.Coming.{came-nowhere, came-then}
 use Rattle.serve.proofs.Turning.{atHand, came-turn, turn-passing, text-shrinks, left-last}
 
@@ -103,9 +101,6 @@ module _ (p : Profile) (R : ℕ) (f : Flow) (before input : List ℕ) where
         in
         omega (arith, l, w, turn .ran .full e, h .room)
 
-    abbrev held : List (Read Request)
-    held = recordsIn p (drop (g .skip) (hand g kept)) (g .ended)
-
     passing : (t .flow .skip ≡ 0 → ⊥) → hand (t .flow) rest ≡ []
     passing = turn-passing p R g now after kept rest out done t (h .have) turn
 
@@ -121,41 +116,33 @@ module _ (p : Profile) (R : ℕ) (f : Flow) (before input : List ℕ) where
         omega (arith, l, length-take-le (t .flow .have) rest (answering-turn .have))
 
     module _ (records : ℕ) where
-      pub rested-unwritten : Rested p R f before after input rest (record { flow = t .flow; records = records; pause = pause.Unwritten })
+      abbrev After : Pause → Type 0
+      After x = Rested p R f before after input rest (record { flow = t .flow; records = records; pause = x })
+
+      rested : (x : Pause) → (x ≡ pause.Waiting → t .ran .halt ≡ Waiting) → (x ≡ pause.Over Whole → t .ran .halt ≡ Stopped) → (x ≡ pause.Over Unsound → ⊥) → After x
+      rested x w d u =
+          record {
+            wrote = answering-turn .wrote;
+            came = answering-turn .came;
+            ended = answering-turn .ended;
+            have = answering-turn .have;
+            passing = passing;
+            waits = λ e. let k = w e in (sym (h .ended) ∙ turn .ran .waits k .0, short-hand k, none-held k);
+            stops = λ e.
+                let k = turn .ran .stops (d e) in
+                (sym (h .ended) ∙ k .0, left-last p R g now after kept rest out done t (h .have) turn (k .0) ∙ k .1);
+            tested = u;
+          }
+
+      pub rested-unwritten : After (pause.Over Unwritten)
       rested-unwritten =
-          record {
-            wrote = answering-turn .wrote;
-            came = answering-turn .came;
-            ended = answering-turn .ended;
-            have = answering-turn .have;
-            passing = passing;
-            waits = λ e. let z : _≡_ {A = ℕ} 0 1 = cc in absurd (omega arith);
-            stops = λ e. let z : _≡_ {A = ℕ} 0 1 = cc in absurd (omega arith);
-          }
+          rested (pause.Over Unwritten) (λ e. let z : _≡_ {A = ℕ} 0 1 = cc in absurd (omega arith)) (λ e. let z : _≡_ {A = ℕ} 0 1 = cc in absurd (omega arith))
+          (λ e. let z : _≡_ {A = ℕ} 0 1 = cc in absurd (omega arith))
 
-      pub rested-waiting : t .ran .halt ≡ Waiting → Rested p R f before after input rest (record { flow = t .flow; records = records; pause = pause.Waiting })
-      rested-waiting h′ =
-          record {
-            wrote = answering-turn .wrote;
-            came = answering-turn .came;
-            ended = answering-turn .ended;
-            have = answering-turn .have;
-            passing = passing;
-            waits = λ e. (sym (h .ended) ∙ turn .ran .waits h′ .0, short-hand h′, none-held h′);
-            stops = λ e. let z : _≡_ {A = ℕ} 0 1 = cc in absurd (omega arith);
-          }
+      pub rested-waiting : t .ran .halt ≡ Waiting → After pause.Waiting
+      rested-waiting k =
+          rested pause.Waiting (λ e. k) (λ e. let z : _≡_ {A = ℕ} 0 1 = cc in absurd (omega arith)) (λ e. let z : _≡_ {A = ℕ} 0 1 = cc in absurd (omega arith))
 
-      pub rested-stopped : t .ran .halt ≡ Stopped → Rested p R f before after input rest (record { flow = t .flow; records = records; pause = pause.Stopped })
-      rested-stopped h′ =
-          record {
-            wrote = answering-turn .wrote;
-            came = answering-turn .came;
-            ended = answering-turn .ended;
-            have = answering-turn .have;
-            passing = passing;
-            waits = λ e. let z : _≡_ {A = ℕ} 0 1 = cc in absurd (omega arith);
-            stops = λ e. (
-              sym (h .ended) ∙ turn .ran .stops h′ .0,
-              left-last p R g now after kept rest out done t (h .have) turn (turn .ran .stops h′ .0) ∙ turn .ran .stops h′ .1,
-            );
-          }
+      pub rested-stopped : t .ran .halt ≡ Stopped → After (pause.Over Whole)
+      rested-stopped k =
+          rested (pause.Over Whole) (λ e. let z : _≡_ {A = ℕ} 0 1 = cc in absurd (omega arith)) (λ e. k) (λ e. let z : _≡_ {A = ℕ} 0 1 = cc in absurd (omega arith))

@@ -1,10 +1,9 @@
 -- A run over an input, read by read. Assumes nothing.
-use Prim.Native.Nat.{ℕ, zero, suc, _+_, _-_, _≤_, _<_}
+use Prim.Native.Nat.{ℕ, _+_, _-_, _≤_, _<_}
 use native.Mathlib.Omega.{arith}
 use mathlib.Core.Path.{_≡_, refl, sym, _∙_, ap, subst}
 use mathlib.Core.Bool.{Bool, true, false, true≢false}
-use mathlib.Core.List.{List, [], _∷_, _++_, append-assoc, append-nil}
-use lib.Dec.{eqb}
+use mathlib.Core.List.{List, [], _++_}
 use lib.ListN.{length, take, drop}
 use lib.Seq.{length-take-le, take-append-add, take-append-le}
 use borrow.Rule.Slice.PartMut.{putMid}
@@ -19,13 +18,14 @@ use Rattle.requests.specs.Stream.{recordsIn}
 use Rattle.serve.specs.declared.flow.Flow.{Flow}
 use Rattle.serve.specs.declared.End.{End}
 use Rattle.serve.specs.declared.End.the-variants.{Whole, Unsound}
-use Rattle.serve.specs.declared.Pause.the-variants.{Waiting, Stopped}
+use Rattle.serve.specs.declared.Pause.the-variants.{Waiting, Over}
 use Rattle.serve.specs.declared.Piece.{Piece}
+use Rattle.serve.specs.declared.Piece.the-variants.{Lost}
 use Rattle.serve.specs.declared.Taken.{Taken}
 use Rattle.serve.specs.declared.Rest.{Rest}
 use Rattle.serve.specs.declared.Report.{Report}
 use Rattle.serve.specs.Flow.{started, hand, Arrived}
-use Rattle.serve.specs.Course.{Standing, start, standing, left, recordMost, Came, TakenIn, Rested, Course, Served}
+use Rattle.serve.specs.Course.{Standing, start, standing, recordMost, Came, Fails, TakenIn, Rested, Course, Served}
 use Rattle.serve.proofs.Hand.{none-taken}
 use Rattle.serve.proofs.Pieces.{no-records}
 use Rattle.serve.proofs.Coming.{came-nowhere, came-taken, came-then}
@@ -33,8 +33,9 @@ use Rattle.serve.proofs.Coming.{came-nowhere, came-taken, came-then}
 -- ---- what came in stands behind the bytes at hand
 
 pub taken-in : (f g : Flow) (n k : ℕ) (input part : List ℕ) (x : Piece) → f .have ≤ length input → n ≤ length part → g .have ≤ length (putMid (f .have) k input part) → Arrived f n g
+    → ((e : End) → x ≡ Lost e → Fails e)
     → TakenIn f input (putMid (f .have) k input part) (record { flow = g; count = n; piece = x })
-taken-in f g n k input part x l m h a =
+taken-in f g n k input part x l m h a z =
     let e : g .have ≡ length (hand f input) + n = omega (arith, a .have, length-take-le (f .have) input l) in
     record {
       piece = take n part;
@@ -46,6 +47,7 @@ taken-in f g n k input part x l m h a =
       skip = a .skip;
       lines = a .lines;
       ended = a .ended ∙ sym (none-taken n part m);
+      lost = z;
     }
 
 -- ---- how far the run came: it waits for more
@@ -75,8 +77,9 @@ module _ (p : Profile) (R : ℕ) (before : List ℕ) where
   module _ (now input : List ℕ) (f : Flow) (h : Serving p R before now input f) (room : recordMost ≤ length input) where
     -- ---- it ends between two reads
 
-    pub course-waiting : (last : Bool) (r : Report) → r .torn ≡ f .have → r .missing ≡ f .skip → (r .end ≡ Whole → last ≡ false) → Course p R before now last r
-    course-waiting last r t m w =
+    pub course-waiting : (last : Bool) (r : Report) → r .torn ≡ f .have → r .missing ≡ f .skip → (r .end ≡ Whole → last ≡ false) → (r .end ≡ Unsound → ⊥)
+        → Course p R before now last r
+    course-waiting last r t m w u =
         record {
           read = h .read;
           wrote = h .wrote;
@@ -90,6 +93,7 @@ module _ (p : Profile) (R : ℕ) (before : List ℕ) where
           done = λ e l. absurd (true≢false (sym l ∙ w e));
           goes-on = λ l. refl;
           rests = λ e l. h .none;
+          tested = u;
         }
 
     -- ---- something came in, and what is at hand is answered
@@ -127,7 +131,8 @@ module _ (p : Profile) (R : ℕ) (before : List ℕ) where
 
       -- where more may follow, it goes on only before the end
       pub course-after : (last : Bool) → (last ≡ false → t .flow .ended ≡ false) → (x : Report) → x .torn ≡ r .flow .have
-          → x .missing ≡ r .flow .skip → (x .end ≡ Whole → r .pause ≡ Stopped) → Course p R before after last x
+          → x .missing ≡ r .flow .skip → r .pause ≡ Over (x .end)
+          → Course p R before after last x
       course-after last on x torn missing w =
           record {
             read = (h .read ++ piece) ++ [];
@@ -139,9 +144,10 @@ module _ (p : Profile) (R : ℕ) (before : List ℕ) where
             torn = torn ∙ sym (length-take-le (r .flow .have) kept (rest .have));
             missing = missing;
             passing = rest .passing;
-            done = λ e l. rest .stops (w e);
+            done = λ e l. rest .stops (w ∙ ap Over e);
             goes-on = on;
-            rests = λ e l. absurd (true≢false (sym (rest .stops (w e) .0) ∙ on l));
+            rests = λ e l. absurd (true≢false (sym (rest .stops (w ∙ ap Over e) .0) ∙ on l));
+            tested = λ e. rest .tested (w ∙ ap Over e);
           }
 
 -- ---- the store stays sound, with as many places

@@ -1,12 +1,12 @@
 -- One turn over the bytes at hand: what comes after it of the records, the state and the text. Assumes nothing.
-use Prim.Native.Nat.{ℕ, zero, suc, _+_, _-_, _≤_, _<_, min}
+use Prim.Native.Nat.{ℕ, _+_, _-_, _≤_}
 use native.Mathlib.Omega.{arith}
 use mathlib.Core.Path.{_≡_, refl, sym, _∙_, ap, subst}
 use mathlib.Core.Bool.{Bool, true, false, cond}
-use mathlib.Core.List.{List, [], _∷_, _++_, append-nil, append-assoc}
+use mathlib.Core.List.{List, [], _++_, append-nil}
 use lib.Dec.{eqb, leb}
-use lib.ListN.{length, take, drop, length-append, length-drop, length-take, drop-of-length-le, take-append-drop}
-use lib.Seq.{length-take-le, drop-append-le, drop-append-add, take-append-le, take-at, drop-at, drop-nil, take-all, take-add}
+use lib.ListN.{length, take, drop, length-append, drop-of-length-le, take-append-drop}
+use lib.Seq.{length-take-le, drop-append-le, drop-append-add, take-at, drop-at, drop-nil}
 use borrow.Author.Tests.{leb-true, leb-false, eqb-true, eqb-false, eq-eqb, ne-eqb}
 use Rattle.values.specs.Basic.{isNil}
 use Rattle.forms.specs.Read.{Read}
@@ -19,7 +19,7 @@ use Rattle.requests.specs.Stream.{recordsIn, bytesOf, textOf, stateOf, Runs}
 use Rattle.serve.specs.declared.flow.Flow.{Flow}
 use Rattle.serve.specs.declared.flow.Turn.{Turn}
 use Rattle.serve.specs.Flow.{hand, Turned}
-use Rattle.serve.specs.Course.{Standing, standing, ahead, left, textLeft, Came}
+use Rattle.serve.specs.Course.{Standing, standing, ahead, left, Came}
 use Rattle.serve.proofs.Hand.{none-taken}
 use Rattle.serve.proofs.Pieces.{no-records, split, same-bytes, bytes-zero, all-held, passed-on}
 use Rattle.serve.proofs.Texts.{text-onward}

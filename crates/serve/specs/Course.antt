@@ -8,16 +8,17 @@ use lib.ListN.{length, take, drop}
 use Rattle.values.specs.Basic.{isNil}
 use Rattle.forms.specs.Read.{Read}
 use Rattle.rules.specs.declared.profile.Profile.{Profile}
-use Rattle.rules.specs.State.{State}
-use Rattle.rules.specs.Layout.{image, parse, placesOf}
+use Rattle.rules.specs.Layout.{parse, placesOf}
 use Rattle.rules.specs.Request.{Request}
 use Rattle.rules.specs.Sound.{sound}
 use Rattle.laid.specs.Store.{Store}
 use Rattle.records.specs.Frame.{mostLength}
 use Rattle.requests.specs.Stream.{recordsIn, bytesOf, textOf, stateOf}
 use Rattle.serve.specs.declared.flow.Flow.{Flow}
+use Rattle.serve.specs.declared.End.{End}
 use Rattle.serve.specs.declared.End.the-variants.{Whole, Unsound}
-use Rattle.serve.specs.declared.Pause.the-variants.{Waiting, Stopped}
+use Rattle.serve.specs.declared.Piece.the-variants.{Lost}
+use Rattle.serve.specs.declared.Pause.the-variants.{Waiting, Over}
 use Rattle.serve.specs.declared.Rest.{Rest}
 use Rattle.serve.specs.declared.Taken.{Taken}
 use Rattle.serve.specs.declared.Report.{Report}
@@ -66,6 +67,11 @@ pub record Came (p : Profile) (R : ℕ) (ended : Bool) (x : Standing) (read : Li
       → parse p R (y .store) ≡ stateOf p R (parse p R (x .store)) (take count (left p x (read ++ more)))
   pub text : (more : List ℕ) → (ended ≡ true → more ≡ []) → textLeft p R x (read ++ more) ≡ wrote ++ textLeft p R y more
 
+-- neither done nor refused
+
+abbrev pub Fails : End → Type 0
+Fails e = (e ≡ Whole → ⊥) × (e ≡ Unsound → ⊥)
+
 -- ---- a piece came in behind the bytes at hand; none: the input has ended
 
 pub record TakenIn (f : Flow) (before after : List ℕ) (r : Taken) : Type 0 where
@@ -75,6 +81,7 @@ pub record TakenIn (f : Flow) (before after : List ℕ) (r : Taken) : Type 0 whe
   pub skip : r .flow .skip ≡ f .skip
   pub lines : r .flow .lines ≡ f .lines
   pub ended : r .flow .ended ≡ isNil piece
+  pub lost : (e : End) → r .piece ≡ Lost e → Fails e
 
 -- ---- the records at hand answered, turn by turn
 
@@ -85,7 +92,8 @@ pub record Rested (p : Profile) (R : ℕ) (f : Flow) (before after input kept : 
   pub have : r .flow .have ≤ length kept
   pub passing : (r .flow .skip ≡ 0 → ⊥) → hand (r .flow) kept ≡ []
   pub waits : r .pause ≡ Waiting → (f .ended ≡ false) × (r .flow .have < recordMost) × (recordsIn p (hand (r .flow) kept) false ≡ [])
-  pub stops : r .pause ≡ Stopped → (f .ended ≡ true) × (left p (standing after (r .flow) kept) [] ≡ [])
+  pub stops : r .pause ≡ Over Whole → (f .ended ≡ true) × (left p (standing after (r .flow) kept) [] ≡ [])
+  pub tested : r .pause ≡ Over Unsound → ⊥
 
 -- ---- a run over a sound store: some input was read, some text written; where bytes are missing, none is at hand; where all is done,
 -- nothing is left, or where more may follow (the input has not ended then), no whole record
@@ -103,6 +111,7 @@ pub record Course (p : Profile) (R : ℕ) (before after : List ℕ) (last : Bool
   pub done : r .end ≡ Whole → last ≡ true → (ended ≡ true) × (left p end [] ≡ [])
   pub goes-on : last ≡ false → ended ≡ false
   pub rests : r .end ≡ Whole → last ≡ false → recordsIn p (end .hand) false ≡ []
+  pub tested : r .end ≡ Unsound → ⊥
 
 -- not sound, the store stays as it was; sound, it is the rules' state of the first records of what was read, and stays sound
 pub record Served (p : Profile) (before after : List ℕ) (last : Bool) (r : Report) : Type 0 where

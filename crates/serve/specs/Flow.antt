@@ -1,10 +1,10 @@
 -- What stands between two reads of an input, and one turn over the bytes at hand, as equations. Assumes nothing.
-use Prim.Native.Nat.{ℕ, _+_, _-_, _≤_}
+use Prim.Native.Nat.{ℕ, _+_, _-_}
 use mathlib.Core.Path.{_≡_}
-use mathlib.Core.Bool.{Bool, true, false, cond}
-use mathlib.Core.List.{List, [], _++_}
+use mathlib.Core.Bool.{false, cond}
+use mathlib.Core.List.{List}
 use lib.Dec.{eqb}
-use lib.ListN.{length, take, drop}
+use lib.ListN.{take, drop}
 use Rattle.rules.specs.declared.profile.Profile.{Profile}
 use Rattle.requests.specs.Stream.{Runs}
 use Rattle.serve.specs.declared.flow.Flow.{Flow}

@@ -47,11 +47,10 @@ pub struct Report {
     pub missing: usize,
 }
 
-// Whether what came in was read and kept.
+// What came in is at hand, or why it is not.
 enum Piece {
     Kept,
-    Unread,
-    Unlogged,
+    Lost(End),
 }
 
 // What stands when it came in, and how many bytes that were.
@@ -61,11 +60,10 @@ struct Taken {
     piece: Piece,
 }
 
-// How the bytes at hand were answered.
+// Behind the bytes at hand more are needed, or it is over.
 enum Pause {
     Waiting,
-    Stopped,
-    Unwritten,
+    Over(End),
 }
 
 struct Rest {
@@ -126,7 +124,7 @@ fn answer_all(
             return Rest {
                 flow: g,
                 records,
-                pause: Pause::Unwritten,
+                pause: Pause::Over(End::Unwritten),
             };
         }
         let halt = ran.halt;
@@ -143,15 +141,15 @@ fn answer_all(
                 return Rest {
                     flow: g,
                     records,
-                    pause: Pause::Stopped,
+                    pause: Pause::Over(End::Whole),
                 };
             }
-            // the store is known to be sound
+            // never: the store is known to be sound
             Halt::Unsound => {
                 return Rest {
                     flow: g,
                     records,
-                    pause: Pause::Stopped,
+                    pause: Pause::Over(End::Unsound),
                 };
             }
         }
@@ -183,7 +181,7 @@ fn take_in(from: i32, log: i32, input: &mut [u8], f: Flow) -> Taken
         return Taken {
             flow,
             count: n,
-            piece: Piece::Unread,
+            piece: Piece::Lost(End::Unread),
         };
     }
     let end = have + n;
@@ -191,7 +189,7 @@ fn take_in(from: i32, log: i32, input: &mut [u8], f: Flow) -> Taken
         return Taken {
             flow,
             count: n,
-            piece: Piece::Unlogged,
+            piece: Piece::Lost(End::Unlogged),
         };
     }
     Taken {
@@ -228,13 +226,10 @@ fn run(
         let taken = take_in(from, log, input, f);
         let piece = taken.piece;
         match piece {
-            Piece::Unread => {
-                return told(End::Unread, records, bytes, f);
-            }
-            Piece::Unlogged => {
-                return told(End::Unlogged, records, bytes, f);
-            }
             Piece::Kept => {}
+            Piece::Lost(end) => {
+                return told(end, records, bytes, f);
+            }
         }
         let next = taken.flow;
         if next.ended && !last {
@@ -247,11 +242,8 @@ fn run(
         let pause = rest.pause;
         match pause {
             Pause::Waiting => {}
-            Pause::Stopped => {
-                return told(End::Whole, records, bytes, after);
-            }
-            Pause::Unwritten => {
-                return told(End::Unwritten, records, bytes, after);
+            Pause::Over(end) => {
+                return told(end, records, bytes, after);
             }
         }
         f = after;

@@ -1,7 +1,6 @@
 -- `files::load` stays inside its slice, keeps its length and ends: each turn that goes on leaves less room. Assumes nothing.
 use mathlib.Core.Path.{_≡_}
 use Prim.Native.Nat.{_-_, _≤_}
-use native.Mathlib.Omega.{arith}
 use borrow.Author.Needs.{needs}
 use lib.ListN.{length}
 use Rattle.files.proofs.load.Statement.{statement}

@@ -1,9 +1,7 @@
 -- `lent::main` ends: the measure is the number of arguments that are left. Assumes nothing.
 use mathlib.Core.Path.{_≡_}
-use Prim.Native.Nat.{_+_, _-_, _≤_}
-use native.Mathlib.Omega.{arith}
+use Prim.Native.Nat.{_+_, _-_}
 use borrow.Author.Needs.{needs}
-use lib.ListN.{length}
 use Rattle.lent.proofs.main.Statement.{statement}
 use Rattle.lent.proofs.main.Tie as tie
 

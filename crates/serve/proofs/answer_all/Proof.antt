@@ -1,6 +1,5 @@
 -- `serve::answer_all` meets its contract and ends: each turn that stops for room leaves less text. Assumes nothing.
-use mathlib.Core.Path.{_≡_, refl, sym, _∙_}
-use native.Mathlib.Omega.{arith}
+use mathlib.Core.Path.{_≡_, refl, _∙_}
 use denote.Ref.{now}
 use borrow.Author.Needs.{needs}
 use lib.ListN.{length}
@@ -8,11 +7,6 @@ use Rattle.serve.proofs.Turning.{atHand}
 use Rattle.serve.proofs.Resting.{Answering, answering-start, answering-turn, full-less, rested-unwritten, rested-waiting, rested-stopped}
 use Rattle.serve.proofs.answer_all.Statement.{statement}
 use Rattle.serve.proofs.answer_all.Tie as tie
-use Rattle.serve.proofs.answer_all.Reads as reads
-use Rattle.serve.proofs.answer_all.Lts as lts
-use Rattle.serve.proofs.flow.take_turn.Reads as take-turn-reads
-use Rattle.serve.proofs.write_out.Reads as write-out-reads
-use Rattle.std.proofs.num.wrapping_add_u64.Reads as wrapping-add-u64-reads
 
 abbrev Inv-loop : tie.InvT-loop
 Inv-loop s₀ p places input₀ out₀ to g₀ records₀ s input out g records =

@@ -9,17 +9,6 @@ use Rattle.serve.proofs.Serving.{served-unsound, served-sound}
 use borrow.Author.Needs.{needs}
 use Rattle.serve.proofs.over.Statement.{statement}
 use Rattle.serve.proofs.over.Tie as tie
-use Rattle.serve.proofs.over.Reads as reads
-use Rattle.serve.proofs.over.Lts as lts
-use Rattle.io.proofs.large_buffer.Reads as large-buffer-reads
-use Rattle.requests.proofs.line.put_answer.Reads as put-answer-reads
-use Rattle.rules.proofs.answer.refused.Reads as refused-reads
-use Rattle.serve.proofs.flow.start.Reads as start-reads
-use Rattle.serve.proofs.run.Reads as run-reads
-use Rattle.serve.proofs.told.Reads as told-reads
-use Rattle.serve.proofs.write_out.Reads as write-out-reads
-use Rattle.sound.proofs.fresh.places_of.Reads as places-of-reads
-use Rattle.sound.proofs.soundness.is_sound.Reads as is-sound-reads
 
 large-buffer-requires : tie.Need-large-buffer-requires
 large-buffer-requires c κs = search needs

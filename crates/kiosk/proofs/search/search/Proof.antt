@@ -1,9 +1,6 @@
 -- `search::search` ends: it counts the records down. Assumes nothing.
-use mathlib.Core.Path.{_≡_}
-use Prim.Native.Nat.{_+_, _-_, _≤_}
-use native.Mathlib.Omega.{arith}
+use Prim.Native.Nat.{_-_}
 use borrow.Author.Needs.{needs}
-use lib.ListN.{length}
 use Rattle.kiosk.proofs.search.search.Statement.{statement}
 use Rattle.kiosk.proofs.search.search.Tie as tie
 

@@ -1,7 +1,6 @@
 -- `keep::make` stays inside the room for a name and ends: there are ten names. Assumes nothing.
 use mathlib.Core.Path.{_≡_}
 use Prim.Native.Nat.{_-_, _≤_}
-use native.Mathlib.Omega.{arith}
 use borrow.Author.Needs.{needs}
 use lib.ListN.{length}
 use Rattle.lent.proofs.keep.make.Statement.{statement}

@@ -4,9 +4,6 @@ use borrow.Author.Needs.{needs}
 use Rattle.serve.proofs.Hand.{all-passed}
 use Rattle.serve.proofs.flow.pass_over.Statement.{statement}
 use Rattle.serve.proofs.flow.pass_over.Tie as tie
-use Rattle.serve.proofs.flow.pass_over.Reads as reads
-use Rattle.serve.proofs.flow.pass_over.Lts as lts
-use Rattle.serve.proofs.flow.take_away.Reads as take-away-reads
 
 sub-t4 : tie.Need-sub-t4
 sub-t4 c = search needs

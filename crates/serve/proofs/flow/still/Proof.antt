@@ -2,8 +2,6 @@
 use borrow.Author.Tests.{ne-eqb}
 use Rattle.serve.proofs.flow.still.Statement.{statement}
 use Rattle.serve.proofs.flow.still.Tie as tie
-use Rattle.serve.proofs.flow.still.Reads as reads
-use Rattle.serve.proofs.flow.still.Lts as lts
 
 returns : tie.Need-returns
 returns c = rw (c .if1 .taken)

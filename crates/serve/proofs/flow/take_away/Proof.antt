@@ -5,9 +5,6 @@ use borrow.Author.Needs.{needs}
 use Rattle.serve.proofs.Hand.{away, none-away}
 use Rattle.serve.proofs.flow.take_away.Statement.{statement}
 use Rattle.serve.proofs.flow.take_away.Tie as tie
-use Rattle.serve.proofs.flow.take_away.Reads as reads
-use Rattle.serve.proofs.flow.take_away.Lts as lts
-use Rattle.areas.proofs.area.close_place.Reads as close-place-reads
 
 close-place-requires : tie.Need-close-place-requires
 close-place-requires c κs = search needs

@@ -4,11 +4,6 @@ use borrow.Author.Needs.{needs}
 use Rattle.serve.proofs.Hand.{turned}
 use Rattle.serve.proofs.flow.take_turn.Statement.{statement}
 use Rattle.serve.proofs.flow.take_turn.Tie as tie
-use Rattle.serve.proofs.flow.take_turn.Reads as reads
-use Rattle.serve.proofs.flow.take_turn.Lts as lts
-use Rattle.requests.proofs.entry.run.Reads as run-reads
-use Rattle.serve.proofs.flow.keep.Reads as keep-reads
-use Rattle.serve.proofs.flow.pass_over.Reads as pass-over-reads
 
 pass-over-requires : tie.Need-pass-over-requires
 pass-over-requires c κs = search needs
