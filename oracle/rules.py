@@ -82,7 +82,7 @@ def add_row(state, schema, row, at, gone=0):
     check_row(state, schema, row, at, gone, same_key=False)
     if state.row_count() == state.places:
         raise Refused(33, at, gone)
-    # 36 never comes: a row has at most 7 indexed columns and the store 7R places.
+    # An index place is never missing: a row has at most 7 indexed columns and the store 7R places.
     state.put_row(schema.name, row[schema.key], row)
 
 

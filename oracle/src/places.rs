@@ -1,5 +1,5 @@
 //! Places in use: rows and tables, followed through what a request wrote. The Rust has no limits,
-//! so it cannot say 01's codes 19 and 33; 36 would need more entries than rows allow.
+//! so it cannot say 01's codes 19 and 33.
 
 use crate::encoding::Key as _;
 use crate::records::Outside;

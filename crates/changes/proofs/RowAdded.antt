@@ -236,7 +236,7 @@ module _ (p : Profile) (R : ℕ) (s₀ : List ℕ) (b : LaidStore p R s₀) (t :
   pub added-column : (n : List ℕ) (column : ℕ) → n ≡ T .name → column ≡ T .key → KeyColumn p R s₀ n column
   added-column n column en ec =
       record {
-        inside = omega (arith, ec, own-key-below p kn R after after-laid T there r new-there refl, few-columns p kn R after after-laid T there);
+        inside = omega (arith, ec, own-key-below p kn R after after-laid T there r new-there refl, few-columns p R after after-laid T there);
         is = λ x e. ec ∙ ap (λ (y : Table). y .key) (only x e);
       }
     where
@@ -276,7 +276,7 @@ module _ (p : Profile) (R : ℕ) (s₀ : List ℕ) (b : LaidStore p R s₀) (t :
   final = indexOf ts (withRow r rs)
 
   pub final-fits : length final ≤ p .entries * R
-  final-fits = index-within p kn R after after-laid
+  final-fits = index-within p (b .indexed) R after after-laid
 
   pub added-start : Adds p R (parse p R s₀) final r (T .columns) 0 s₀
   added-start =

@@ -85,7 +85,7 @@ module _ (p : Profile) (R : ℕ) (s : List ℕ) (b : LaidStore p R s) where
   key-below t m = let k = key-column tables t (held-state p R s b .faults t m) in nth-below (t .columns) (t .key) (k .column) (k .is)
 
   pub key-inside : (t : Table) → In t tables → t .key < p .columns
-  key-inside t m = omega (arith, key-below t m, few-columns p (b .coded .known) R (parse p R s) (held-state p R s b) t m)
+  key-inside t m = omega (arith, key-below t m, few-columns p R (parse p R s) (held-state p R s b) t m)
 
   -- the key column of a table by its place
   module _ (i : ℕ) (h : i < length ((lists p R s) .schemas)) (column : ℕ) (ec : column ≡ getD (getD ((lists p R s) .schemas) i []) nameWidth 0) where
@@ -104,7 +104,7 @@ module _ (p : Profile) (R : ℕ) (s : List ℕ) (b : LaidStore p R s) where
 
   pub entries-are : entriesIn p R s ≡ indexOf tables rows
   unfolding entriesIn
-  entries-are = ap (λ (l : List ℕ). map (readEntry p) ((lists p R l) .entries)) (b .bytes) ∙ index-back p (b .coded .known) R (b .places) (parse p R s) (held-state p R s b)
+  entries-are = ap (λ (l : List ℕ). map (readEntry p) ((lists p R l) .entries)) (b .bytes) ∙ index-back p (b .coded .known) (b .indexed) R (b .places) (parse p R s) (held-state p R s b)
 
   pub held-entered : Entered p R s
   held-entered =

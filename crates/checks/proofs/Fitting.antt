@@ -1,36 +1,32 @@
--- A row against its table: the faults from a column on as the code's loop goes, the indexed columns, the place, and all in 01's order.
+-- A row against its table: the faults from a column on as the code's loop goes, the place, and all in 01's order.
 -- Assumes nothing.
 use mathlib.Core.Path.{_≡_, refl, sym, ap, _∙_, subst}
 use mathlib.Core.Bool.{Bool, true, false, not, _&&_, true≢false}
 use mathlib.Core.Option.{Option, none, some, Option·map, Option·some-injective}
-use Prim.Native.Nat.{ℕ, suc, _+_, _*_, _≤_, _<_}
-use native.Mathlib.Nat.{zero-add, mul-le-mul}
+use Prim.Native.Nat.{ℕ, suc, _+_, _≤_, _<_}
+use native.Mathlib.Nat.{zero-add}
 use native.Mathlib.Numerals.{add-one}
 use native.Mathlib.Omega.{arith}
 use mathlib.Core.List.{List, [], _∷_, map}
 use lib.Dec.{eqb}
-use lib.ListN.{length, take, drop, getD, drop-of-length-le, length-map}
-use borrow.Author.Tests.{lt-ltb, le-ltb, le-leb, lt-leb}
+use lib.ListN.{length, take, drop, getD, drop-of-length-le}
+use borrow.Author.Tests.{le-leb, lt-leb}
 use lib.Seq.{getD-take, length-take-le}
-use Rattle.values.specs.Basic.{keep, nth, orDefault, maybe, _orElse_}
+use Rattle.values.specs.Basic.{nth, orDefault, maybe, _orElse_}
 use Rattle.values.specs.Value.{Value, null, isUndefined}
 use Rattle.values.specs.Cell.{nameWidth, readName}
 use Rattle.values.specs.Meaning.{held, Proper, ProperCell}
 use Rattle.areas.specs.Sorted.{In}
-use Rattle.areas.specs.Counted.{countAt}
 use Rattle.values.specs.declared.value.Cell.{Cell}
-use Rattle.areas.proofs.Sorting.{keep-length}
 use Rattle.rules.specs.declared.profile.Profile.{Profile}
 use Rattle.rules.specs.declared.answer.Refusal.{Refusal}
-use Rattle.rules.specs.declared.answer.Refusal.the-variants.{Accepted, KeyUndefined, KeyExists, RowsFull, RowAbsent, IndexFull}
+use Rattle.rules.specs.declared.answer.Refusal.the-variants.{Accepted, KeyUndefined, KeyExists, RowsFull, RowAbsent}
 use Rattle.rules.specs.Refusal.{numberOf}
 use Rattle.rules.specs.State as S
 use Rattle.rules.specs.State.{Name, Column, Table, State, tableNamed, hasRow, cellAt, keyOf}
-use Rattle.rules.specs.Index.{indexOf}
-use Rattle.rules.specs.Profile.{placesMost}
-use Rattle.rules.specs.Layout.{lists, Schemas, Entries, entriesCount, readTable, readEntry, parse, unknown}
+use Rattle.rules.specs.Layout.{lists, Schemas, readTable, parse, unknown}
 use Rattle.rules.specs.Schema.{first, columnFault, schemaFault}
-use Rattle.rules.specs.Rows.{missing, cellFault, cellsFault, indexedCount, rowFault}
+use Rattle.rules.specs.Rows.{missing, cellFault, cellsFault, rowFault}
 use Rattle.rules.proofs.Tests.{and-false, first-none, orElse-none}
 use Rattle.rules.proofs.Lists.{nth-in}
 use Rattle.rules.proofs.Catalog.{stored-named}
@@ -42,49 +38,13 @@ use Rattle.laid.specs.Catalog.{TableBytes}
 use Rattle.checks.specs.Faults.{kindOfFault}
 use Rattle.laid.specs.Row.{cellsOf, tableIn, KeyColumn, FullRow}
 use Rattle.checks.specs.Asked.{tableWith, UniqueIndexed, placeFault}
-use Rattle.laid.specs.Entered.{entriesIn}
-use Rattle.laid.proofs.Inside.{area-count, count-within}
-use Rattle.laid.proofs.Stores.{held-state, held-inside, held-catalog}
+use Rattle.laid.proofs.Inside.{area-count}
+use Rattle.laid.proofs.Stores.{held-state, held-catalog}
 use Rattle.laid.proofs.Finding.{drop-nth, nth-map, nth-getD, nth-take, all-nth}
 use Rattle.laid.proofs.Columns.{columnsOf, name-read, key-byte, columns-few, column-nth, column-drop}
 use Rattle.laid.proofs.Searching.{tables-count, table-at, table-bytes-at}
 use Rattle.checks.proofs.Faulting.{Told, told, or-told, first-refuses, first-passes}
-use Rattle.checks.proofs.Checking.{key-below, entries-are}
-
--- ---- the indexed columns from a column on
-
-module _ (p : Profile) (rec : List ℕ) where
-  unfoldable pub indexedFrom : ℕ → ℕ
-  indexedFrom j = length (keep (λ (c : Column). c .index) (drop j (columnsOf p rec)))
-
-  pub indexed-start : 0 + indexedFrom 0 ≡ indexedCount (readTable p rec)
-  unfolding indexedFrom
-  indexed-start = omega arith
-
-  none-left : (j : ℕ) → length (columnsOf p rec) ≤ j → indexedFrom j ≡ 0
-  unfolding indexedFrom
-  none-left j h = let n : drop j (columnsOf p rec) ≡ [] = drop-of-length-le (columnsOf p rec) h in rw n
-
-  pub indexed-end : (n j : ℕ) → length (columnsOf p rec) ≤ j → n + indexedFrom j ≡ indexedCount (readTable p rec) → n ≡ indexedCount (readTable p rec)
-  indexed-end n j h e = omega (arith, e, none-left j h)
-
-  pub indexed-few : TableBytes p rec → indexedCount (readTable p rec) ≤ 16
-  indexed-few b = omega (arith, keep-length (λ (c : Column). c .index) (columnsOf p rec), columns-few p rec b, b .coded .known .columns)
-
-  module _ (b : TableBytes p rec) (n j : ℕ) (h : j < length (columnsOf p rec)) (m : ℕ) where
-    one-more : (columnAt p rec j) .index ≡ true → indexedFrom j ≡ 1 + indexedFrom (j + 1)
-    unfolding indexedFrom
-    one-more x = rw (add-one, column-drop p rec b j h, x) (omega arith)
-
-    no-more : (columnAt p rec j) .index ≡ false → indexedFrom j ≡ indexedFrom (j + 1)
-    unfolding indexedFrom
-    no-more x = rw (add-one, column-drop p rec b j h, x)
-
-    pub indexed-more : (columnAt p rec j) .index ≡ true → m ≡ n + 1 → n + indexedFrom j ≡ indexedCount (readTable p rec) → m + indexedFrom (j + 1) ≡ indexedCount (readTable p rec)
-    indexed-more x e g = omega (arith, one-more x)
-
-    pub indexed-not : (columnAt p rec j) .index ≡ false → m ≡ n → n + indexedFrom j ≡ indexedCount (readTable p rec) → m + indexedFrom (j + 1) ≡ indexedCount (readTable p rec)
-    indexed-not x e g = omega (arith, no-more x)
+use Rattle.checks.proofs.Checking.{key-below}
 
 -- ---- a unique column other than the key is indexed
 
@@ -266,53 +226,32 @@ module _ (p : Profile) (R : ℕ) (s : List ℕ) (t : ℕ) where
             fault-none g e =
                 ap (λ (o : Option Refusal). o orElse faultsOn update (row .cells) (j + 1)) (sym (first-passes k here ek (cell-told ((parse p R s) .rows) (tableWith n at) update _ j c _) g)) ∙ sym faults-next ∙ e
 
--- ---- 34, 33, 36
+-- ---- 34, 33
 
-module _ (p : Profile) (R : ℕ) (st : State) (t : Table) (stored update : Bool) where
-  pub row-absent : update ≡ true → not stored ≡ true → RowAbsent ≡ kindOfFault (placeFault p R st t stored update)
+module _ (R : ℕ) (rs : List S.Row) (stored update : Bool) where
+  pub row-absent : update ≡ true → not stored ≡ true → RowAbsent ≡ kindOfFault (placeFault R rs stored update)
   unfolding placeFault first
   row-absent u n = rw (u, n)
 
-  module _ (u : update ≡ true) (n : not stored ≡ false) where
-    pub update-over : p .entries * R < length (indexOf (st .tables) (st .rows)) → IndexFull ≡ kindOfFault (placeFault p R st t stored update)
-    unfolding placeFault first
-    update-over l = rw (u, n, lt-ltb (p .entries * R) (length (indexOf (st .tables) (st .rows)) + 0) (omega arith))
-
-    pub update-fits : length (indexOf (st .tables) (st .rows)) ≤ p .entries * R → Accepted ≡ kindOfFault (placeFault p R st t stored update)
-    unfolding placeFault first
-    update-fits l = rw (u, n, le-ltb (p .entries * R) (length (indexOf (st .tables) (st .rows)) + 0) (omega arith))
-
-  pub rows-full : update ≡ false → R ≤ length (st .rows) → RowsFull ≡ kindOfFault (placeFault p R st t stored update)
+  pub update-fits : update ≡ true → not stored ≡ false → Accepted ≡ kindOfFault (placeFault R rs stored update)
   unfolding placeFault first
-  rows-full u l = rw (u, le-leb R (length (st .rows)) l)
+  update-fits u n = rw (u, n)
 
-  module _ (u : update ≡ false) (m : length (st .rows) < R) where
-    pub insert-over : p .entries * R < length (indexOf (st .tables) (st .rows)) + indexedCount t → IndexFull ≡ kindOfFault (placeFault p R st t stored update)
-    unfolding placeFault first
-    insert-over l = rw (u, lt-leb R (length (st .rows)) m, lt-ltb (p .entries * R) (length (indexOf (st .tables) (st .rows)) + indexedCount t) l)
+  pub rows-full : update ≡ false → R ≤ length rs → RowsFull ≡ kindOfFault (placeFault R rs stored update)
+  unfolding placeFault first
+  rows-full u l = rw (u, le-leb R (length rs) l)
 
-    pub insert-fits : length (indexOf (st .tables) (st .rows)) + indexedCount t ≤ p .entries * R → Accepted ≡ kindOfFault (placeFault p R st t stored update)
-    unfolding placeFault first
-    insert-fits l = rw (u, lt-leb R (length (st .rows)) m, le-ltb (p .entries * R) (length (indexOf (st .tables) (st .rows)) + indexedCount t) l)
+  pub insert-fits : update ≡ false → length rs < R → Accepted ≡ kindOfFault (placeFault R rs stored update)
+  unfolding placeFault first
+  insert-fits u l = rw (u, lt-leb R (length rs) l)
 
--- the index is counted in the header
-pub index-counted : (p : Profile) (R : ℕ) (s : List ℕ) → LaidStore p R s → countAt entriesCount 4 s ≡ length (indexOf ((parse p R s) .tables) ((parse p R s) .rows))
-unfolding entriesIn
-index-counted p R s b = sym (area-count p R s Entries) ∙ sym (length-map ((lists p R s) .entries) (readEntry p)) ∙ ap length (entries-are p R s b)
-
-pub product-small : (p : Profile) (R : ℕ) (s : List ℕ) → LaidStore p R s → p .entries * R ≤ 65536
-product-small p R s b = let l : p .entries * R ≤ 16 * placesMost = mul-le-mul (b .coded .known .entries) (b .places) in omega arith
-
-pub index-most : (p : Profile) (R : ℕ) (s : List ℕ) → LaidStore p R s → countAt entriesCount 4 s ≤ p .entries * R
-index-most p R s b = count-within p R s (held-inside p R s b) Entries
-
--- ---- 26, 27; each column 28 to 31; 34, 33, 36
+-- ---- 26, 27; each column 28 to 31; 34, 33
 
 module _ (p : Profile) (R : ℕ) (st : State) (t : Table) (update : Bool) (v : List Value) where
   in-three : rowFault p R st t update v
       ≡ first ((KeyUndefined, isUndefined (keyOf t v)) ∷ (KeyExists, not update && hasRow (st .rows) (t .name) (keyOf t v)) ∷ [])
       orElse cellsFault (st .rows) t update (keyOf t v) 0 (t .columns) v
-      orElse placeFault p R st t (hasRow (st .rows) (t .name) (keyOf t v)) update
+      orElse placeFault R (st .rows) (hasRow (st .rows) (t .name) (keyOf t v)) update
   unfolding rowFault placeFault
   in-three = refl
 
@@ -326,14 +265,14 @@ module _ (p : Profile) (R : ℕ) (st : State) (t : Table) (update : Bool) (v : L
     key-exists u h = rw (in-three, z, u, ← es, h)
 
     module _ (n : (not update && stored) ≡ false) (k : Refusal) (ek : k ≡ kindOfFault (cellsFault (st .rows) t update (keyOf t v) 0 (t .columns) v)) where
-      past-key : rowFault p R st t update v ≡ cellsFault (st .rows) t update (keyOf t v) 0 (t .columns) v orElse placeFault p R st t stored update
+      past-key : rowFault p R st t update v ≡ cellsFault (st .rows) t update (keyOf t v) 0 (t .columns) v orElse placeFault R (st .rows) stored update
       unfolding first _orElse_
       past-key = rw (in-three, z, ← es, n)
 
       pub cells-refuse : eqb (numberOf k) 0 ≡ false → k ≡ kindOfFault (rowFault p R st t update v)
-      cells-refuse g = rw past-key (first-refuses k (cellsFault (st .rows) t update (keyOf t v) 0 (t .columns) v) (placeFault p R st t stored update) ek g)
+      cells-refuse g = rw past-key (first-refuses k (cellsFault (st .rows) t update (keyOf t v) 0 (t .columns) v) (placeFault R (st .rows) stored update) ek g)
 
-      pub place-decides : eqb (numberOf k) 0 ≡ true → (r : Refusal) → r ≡ kindOfFault (placeFault p R st t stored update) → r ≡ kindOfFault (rowFault p R st t update v)
+      pub place-decides : eqb (numberOf k) 0 ≡ true → (r : Refusal) → r ≡ kindOfFault (placeFault R (st .rows) stored update) → r ≡ kindOfFault (rowFault p R st t update v)
       unfolding _orElse_
       place-decides g r e =
           rw (past-key, first-passes k (cellsFault (st .rows) t update (keyOf t v) 0 (t .columns) v) ek (cells-told (st .rows) t update (keyOf t v) 0 (t .columns) v) g) e

@@ -1,21 +1,19 @@
 -- What the code asks about a row, part by part: the index entries of a value, and whether the row is there or has a place. Assumes nothing.
 use mathlib.Core.Path.{_≡_}
-use Prim.Native.Nat.{ℕ, _+_, _*_}
+use Prim.Native.Nat.{ℕ, _+_}
 use mathlib.Core.Bool.{Bool, true, false, not, _&&_}
 use mathlib.Core.List.{List, [], _∷_}
 use mathlib.Core.Option.{Option, Option·map}
-use lib.Dec.{eqb, ltb, leb}
+use lib.Dec.{eqb, leb}
 use lib.ListN.{length, getD, drop}
 use Rattle.values.specs.Basic.{nth, orDefault, maybe}
 use Rattle.values.specs.Value.{Value, isNull, same}
 use Rattle.values.specs.Cell.{nameWidth, readName, readValue}
-use Rattle.rules.specs.declared.profile.Profile.{Profile}
 use Rattle.rules.specs.declared.answer.Refusal.{Refusal}
-use Rattle.rules.specs.declared.answer.Refusal.the-variants.{WrongKind, NullNotAllowed, RowAbsent, RowsFull, IndexFull}
-use Rattle.rules.specs.State.{Name, sameName, Column, Table, State}
-use Rattle.rules.specs.Index.{Entry, columnsOf, indexOf}
+use Rattle.rules.specs.declared.answer.Refusal.the-variants.{WrongKind, NullNotAllowed, RowAbsent, RowsFull}
+use Rattle.rules.specs.State.{Name, sameName, Column, Table, Row}
+use Rattle.rules.specs.Index.{Entry, columnsOf}
 use Rattle.rules.specs.Schema.{first, otherKind}
-use Rattle.rules.specs.Rows.{entriesWanted}
 
 -- a table of which only the name and the key column are looked at
 abbrev pub tableWith : Name → ℕ → Table
@@ -57,11 +55,10 @@ kindFault c v =
     ∷ (NullNotAllowed, isNull v && not (c .nullable))  -- 29
     ∷ [])
 
--- 34, 33, 36, where `stored` tells whether a row has the key
-unfoldable pub placeFault : Profile → ℕ → State → Table → Bool → Bool → Option Refusal
-placeFault p R s t stored update =
+-- 34, 33, where `stored` tells whether a row has the key
+unfoldable pub placeFault : ℕ → List Row → Bool → Bool → Option Refusal
+placeFault R rs stored update =
     first
     ((RowAbsent, update && not stored)  -- 34
-    ∷ (RowsFull, not update && leb R (length (s .rows)))  -- 33
-    ∷ (IndexFull, ltb (p .entries * R) (length (indexOf (s .tables) (s .rows)) + entriesWanted t update))  -- 36
+    ∷ (RowsFull, not update && leb R (length rs))  -- 33
     ∷ [])

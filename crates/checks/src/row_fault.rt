@@ -1,4 +1,4 @@
-// What is wrong with a row against the store, part by part (schema.rs: `validate_row`): 28 to 31, 34, 33, 36.
+// What is wrong with a row against the store, part by part (schema.rs: `validate_row`): 28 to 31, 34, 33.
 use areas::search;
 use laid::catalog;
 use laid::catalog::Column;
@@ -23,11 +23,10 @@ ghost use Rattle.values.specs.Cell.{nameWidth, cellWidth};
 ghost use Rattle.values.specs.Value.{same};
 ghost use Rattle.values.specs.Meaning.{textBytes, Packed, meaning, Proper};
 ghost use Rattle.rules.specs.State.{sameName, hasRow, keyOf};
-ghost use Rattle.rules.specs.Layout.{readTable, parse};
-ghost use Rattle.rules.specs.Rows.{missing, taken, exists, cellFault, cellsFault, indexedCount};
+ghost use Rattle.rules.specs.Layout.{parse};
+ghost use Rattle.rules.specs.Rows.{missing, taken, exists, cellFault, cellsFault};
 ghost use Rattle.laid.specs.Store.{LaidStore};
 ghost use Rattle.laid.specs.Column.{columnOf, ProperColumn};
-ghost use Rattle.laid.specs.Catalog.{TableBytes};
 ghost use Rattle.checks.specs.Faults.{kindOfFault};
 ghost use Rattle.laid.specs.Row.{cellsOf, tableIn, KeyColumn, FullRow};
 ghost use Rattle.laid.specs.Entered.{entriesIn};
@@ -269,51 +268,19 @@ pub fn cells_fault(s: &[u8], p: Profile, places: usize, t: usize, row: Row, upda
     Refusal::Accepted
 }
 
-// How many columns of a table are indexed.
-fn indexed_count(rec: &[u8], p: Profile) -> usize
-    requires { ⌜ TableBytes p (now rec) ⌝ }
-    ensures { λ r. ⌜ r ≡ indexedCount (readTable p (now (rec .entry))) ⌝ }
-{
-    let count = catalog::column_count(rec);
-    let mut n: usize = 0;
-    let mut j = 0;
-    while j < count {
-        let c = catalog::read_column(rec, p, j);
-        if c.index {
-            n += 1;
-        }
-        j += 1;
-    }
-    n
-}
-
-// 34, 33, 36: whether the row is there, or has a place.
-pub fn place_fault(
-    s: &[u8],
-    p: Profile,
-    places: usize,
-    t: usize,
-    stored: bool,
-    update: bool,
-) -> Refusal
-    requires { ⌜ LaidStore p places (now s) × (t < length ((parse p places (now s)) .tables)) ⌝ }
-    ensures { λ r. ⌜ r ≡ kindOfFault (placeFault p places (parse p places (now (s .entry))) (tableIn p places (now (s .entry)) t) stored update) ⌝ }
+// 34, 33: whether the row is there, or has a place.
+pub fn place_fault(s: &[u8], p: Profile, places: usize, stored: bool, update: bool) -> Refusal
+    requires { ⌜ LaidStore p places (now s) ⌝ }
+    ensures { λ r. ⌜ r ≡ kindOfFault (placeFault places ((parse p places (now (s .entry))) .rows) stored update) ⌝ }
 {
     if update {
         if !stored {
             return Refusal::RowAbsent;
         }
-        if p.entries * places < layout::entry_count(s) {
-            return Refusal::IndexFull;
-        }
         return Refusal::Accepted;
     }
     if places <= layout::row_count(s) {
         return Refusal::RowsFull;
-    }
-    let wanted = indexed_count(layout::table_record(s, p, places, t), p);
-    if p.entries * places < layout::entry_count(s) + wanted {
-        return Refusal::IndexFull;
     }
     Refusal::Accepted
 }

@@ -101,7 +101,7 @@ module _ (p : Profile) (R : ℕ) (s : List ℕ) (b : LaidStore p R s) where
     row-in = nth-in rows i (rowIn p R s i) row-at
 
     pub row-good : GoodRow p (rowIn p R s i)
-    row-good = good-row p (b .coded .known) R (parse p R s) (held-state p R s b) (rowIn p R s i) row-in
+    row-good = good-row p R (parse p R s) (held-state p R s b) (rowIn p R s i) row-in
 
     -- a record that is lent, and a cell in it
     module _ (rec : List ℕ) (e : rec ≡ getD ((lists p R s) .rows) i []) where
@@ -136,18 +136,18 @@ module _ (p : Profile) (R : ℕ) (s : List ℕ) (b : LaidStore p R s) where
         let w = v .rows r m in
         let t = w .table in
         let c : column ≡ t .key = kc .is t (ap (tableNamed ((parse p R s) .tables)) (sym e) ∙ w .named) in
-        let kcol = key-column ((parse p R s) .tables) t (v .faults t (table-in p kn R (parse p R s) v r m)) in
+        let kcol = key-column ((parse p R s) .tables) t (v .faults t (table-in p R (parse p R s) v r m)) in
         let l : column < length (r .cells) = omega (arith, w .full, nth-below (t .columns) (t .key) (kcol .column) (kcol .is)) in
-        let g = good-row p kn R (parse p R s) v r m in
+        let g = good-row p R (parse p R s) v r m in
         cell-read p (kn .cell) r g column l
         ∙ sym (canonical-normal (cellAt (r .cells) column) (cell-canonical p (kn .cell) r g column l))
         ∙ ap (λ (i : ℕ). normalised (cellAt (r .cells) i)) c
-        ∙ sym (key-is p kn R (parse p R s) v r m)
+        ∙ sym (key-is p R (parse p R s) v r m)
 
     agree : (r : Row) → In r rows → cmpKeyed at (rowRecord p r) n key ≡ cmpRow r (keyed n key)
     unfolding cmpKeyed cmpNamed cmpRow
     agree r m =
-        let g = good-row p (b .coded .known) R (parse p R s) (held-state p R s b) r m in
+        let g = good-row p R (parse p R s) (held-state p R s b) r m in
         rw (row-name p (b .coded .known .cell) r g) (by-name (cmpBytes (r .table) n) refl)
       where
         by-name : (o : Ordering) → cmpBytes (r .table) n ≡ o → andThen o (cmpValue (readValue (drop at (rowRecord p r))) key) ≡ andThen o (cmpValue (r .key) key)

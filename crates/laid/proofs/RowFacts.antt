@@ -50,11 +50,11 @@ module _ (p : Profile) (R : ℕ) (s : List ℕ) (t : ℕ) (h : t < length ((pars
 module _ (p : Profile) (k : Known p) (R : ℕ) (st : State) (v : LaidState p R st) (T : Table) (there : In T (st .tables)) (r : S.Row) (m : In r (st .rows)) (of : r .table ≡ T .name) where
   own-table : v .rows r m .table ≡ T
   own-table =
-      one-place ordTable (v .rows r m .table) T (st .tables) (v .tables-sorted) (table-in p k R st v r m) there
-      (ap (λ (n : Name). cmpBytes n (T .name)) (table-named p k R st v r m ∙ of) ∙ self ordBytes (T .name))
+      one-place ordTable (v .rows r m .table) T (st .tables) (v .tables-sorted) (table-in p R st v r m) there
+      (ap (λ (n : Name). cmpBytes n (T .name)) (table-named p R st v r m ∙ of) ∙ self ordBytes (T .name))
 
   pub own-columns : columnsOf (st .tables) (r .table) ≡ T .columns
-  own-columns = its-columns p k R st v r m ∙ ap (λ (x : Table). x .columns) own-table
+  own-columns = its-columns p R st v r m ∙ ap (λ (x : Table). x .columns) own-table
 
   pub own-full : length (r .cells) ≡ length (T .columns)
   own-full = v .rows r m .full ∙ ap (λ (x : Table). length (x .columns)) own-table
@@ -65,7 +65,7 @@ module _ (p : Profile) (k : Known p) (R : ℕ) (st : State) (v : LaidState p R s
       nth-below (T .columns) (T .key) (c .column) (c .is)
 
   pub own-good : GoodRow p r
-  own-good = good-row p k R st v r m
+  own-good = good-row p R st v r m
 
   pub own-key-good : canonical (r .key) ≡ true
   unfolding goodCells
@@ -75,7 +75,7 @@ module _ (p : Profile) (k : Known p) (R : ℕ) (st : State) (v : LaidState p R s
   own-key =
       sym (canonical-normal (cellAt (r .cells) (T .key)) (cell-canonical p (k .cell) r own-good (T .key) (omega (arith, own-full, own-key-below))))
       ∙ ap (λ (x : Table). normalised (keyOf x (r .cells))) (sym own-table)
-      ∙ sym (key-is p k R st v r m)
+      ∙ sym (key-is p R st v r m)
 
 -- ---- what the code has at hand when it goes through the columns
 

@@ -1,17 +1,16 @@
 -- What a store that is laid out gives: what it is laid out from, records that lie inside, and its catalog. Assumes nothing.
-use mathlib.Core.Path.{_≡_, refl, sym, ap, _∙_}
-use Prim.Native.Nat.{ℕ, _*_, _≤_}
+use mathlib.Core.Path.{_≡_, refl, ap}
+use Prim.Native.Nat.{ℕ, _≤_}
 use native.Mathlib.Omega.{arith}
 use mathlib.Core.Bool.{true}
 use mathlib.Core.List.{List, [], _∷_, map}
 use mathlib.Core.Logic.{inl, inr}
-use lib.ListN.{length}
 use Rattle.areas.specs.Counted.{countAt}
 use Rattle.areas.specs.Sorted.{In, All}
 use Rattle.rules.specs.declared.profile.Profile.{Profile}
 use Rattle.rules.specs.Profile.{placesMost}
 use Rattle.rules.specs.State.{Table, State}
-use Rattle.rules.specs.Layout.{Lists, lists, Laid, Area, Schemas, Rows, Entries, countPlace, countWidth, areaPlaces, inArea, tableRecord, readTable, recordsOf, image, parse}
+use Rattle.rules.specs.Layout.{Lists, lists, Laid, Area, Schemas, Rows, Entries, countPlace, countWidth, areaPlaces, tableRecord, readTable, recordsOf, image, parse}
 use Rattle.rules.specs.Sound.{goodTable}
 use Rattle.rules.proofs.Valid.{Valid, valid-is, LaidState, laid-is, laid-of, valid-laid}
 use Rattle.rules.proofs.Laid.{laid-lists, laid-length, laid-count, area-few}
@@ -61,7 +60,7 @@ module _ (p : Profile) (R : ℕ) (s : List ℕ) (b : LaidStore p R s) where
 
   pub held-laid : Laid p R s (recordsOf p held (indexed held))
   unfolding image
-  held-laid = record { fits = fits-image p (b .coded .known) R (b .places) held held-state; whole = b .bytes }
+  held-laid = record { fits = fits-image p (b .coded .known) (b .indexed) R (b .places) held held-state; whole = b .bytes }
 
   pub held-lists : lists p R s ≡ recordsOf p held (indexed held)
   held-lists = laid-lists p R s (recordsOf p held (indexed held)) held-laid
@@ -85,7 +84,7 @@ module _ (p : Profile) (R : ℕ) (s : List ℕ) (b : Store p R s) where
   store-valid = valid-is p R (parse p R s) (b .valid)
 
   pub laid-store : LaidStore p R s
-  laid-store = record { coded = b .coded; places = b .places; laid = laid-of p R (parse p R s) (valid-laid store-valid); bytes = b .bytes }
+  laid-store = record { coded = b .coded; indexed = b .indexed; places = b .places; laid = laid-of p R (parse p R s) (valid-laid store-valid); bytes = b .bytes }
 
   pub store-laid : Laid p R s (recordsOf p (parse p R s) (indexed (parse p R s)))
   store-laid = held-laid p R s laid-store

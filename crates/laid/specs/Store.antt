@@ -8,7 +8,7 @@ use Rattle.values.specs.Cell.{cellWidth}
 use Rattle.areas.specs.Counted.{countAt}
 use Rattle.rules.specs.declared.profile.Profile.{Profile}
 use Rattle.rules.specs.declared.answer.Answer.{Answer}
-use Rattle.rules.specs.Profile.{placesMost, storeLength, Known}
+use Rattle.rules.specs.Profile.{placesMost, storeLength, Known, Indexed}
 use Rattle.rules.specs.Layout.{tablesCount, rowsCount, entriesCount, image, parse}
 use Rattle.rules.specs.Request.{said}
 use Rattle.rules.specs.Step.{Outcome, applyAll}
@@ -31,6 +31,7 @@ pub record Inside (p : Profile) (R : ℕ) (s : List ℕ) : Type 0 where
 -- laid out, sound but for unique values and held references: what the changes of a row need and keep
 pub record LaidStore (p : Profile) (R : ℕ) (s : List ℕ) : Type 0 where
   pub coded : Coded p
+  pub indexed : Indexed p
   pub places : R ≤ placesMost
   pub laid : laid p R (parse p R s) ≡ true
   pub bytes : s ≡ image p R (parse p R s)
@@ -38,6 +39,7 @@ pub record LaidStore (p : Profile) (R : ℕ) (s : List ℕ) : Type 0 where
 -- a sound store with R row places
 pub record Store (p : Profile) (R : ℕ) (s : List ℕ) : Type 0 where
   pub coded : Coded p
+  pub indexed : Indexed p
   pub some : 1 ≤ R
   pub places : R ≤ placesMost
   pub valid : valid p R (parse p R s) ≡ true

@@ -16,7 +16,7 @@ use Rattle.forms.specs.Read.{Read, broken}
 use Rattle.rules.specs.declared.profile.Profile.{Profile}
 use Rattle.rules.specs.declared.answer.Answer.{Answer}
 use Rattle.rules.specs.declared.answer.Refusal.the-variants.{RecordBroken, StoreUnsound}
-use Rattle.rules.specs.Profile.{full}
+use Rattle.rules.specs.Profile.{full, Indexed}
 use Rattle.rules.specs.Layout.{parse, placesOf}
 use Rattle.rules.specs.Request.{Request, said, no}
 use Rattle.rules.specs.Sound.{sound}
@@ -40,10 +40,18 @@ use Rattle.requests.proofs.Running.{Moves, moves}
 pub full-coded : Coded full
 full-coded = record { known = full-known; cells = refl }
 
-pub sound-store : (p : Profile) → Coded p → (R : ℕ) (s : List ℕ) → R ≡ placesOf p s → sound p s ≡ true → Store p R s
-sound-store p k R s e h =
+pub sound-store : (p : Profile) → Coded p → Indexed p → (R : ℕ) (s : List ℕ) → R ≡ placesOf p s → sound p s ≡ true → Store p R s
+sound-store p k i R s e h =
     let x = sound-is p s h in
-    rw e (record { coded = k; some = x .least; places = x .most; valid = valid-of p (placesOf p s) (parse p (placesOf p s) s) (x .valid); bytes = sym (x .laid) })
+    rw e
+    (record {
+      coded = k;
+      indexed = i;
+      some = x .least;
+      places = x .most;
+      valid = valid-of p (placesOf p s) (parse p (placesOf p s) s) (x .valid);
+      bytes = sym (x .laid);
+    })
 
 -- ---- one record
 
@@ -58,10 +66,10 @@ module _ (p : Profile) (before : List ℕ) (q : Read Request) where
     unfolding lentOutcome lentAfter
     lent-stored after a t = let s : sound p before ≡ true = sym e ∙ h in let u = rw er at t in record { answer = u .answer ∙ rw s; bytes = u .bytes ∙ rw s }
 
-    pub lent-broken : Coded p → (x : ℕ) → q ≡ broken x → (a : Answer) → said a ≡ no RecordBroken 0 → Lent p q before before a
-    lent-broken k x eq a f =
+    pub lent-broken : Coded p → Indexed p → (x : ℕ) → q ≡ broken x → (a : Answer) → said a ≡ no RecordBroken 0 → Lent p q before before a
+    lent-broken k i x eq a f =
         lent-stored before a
-        (unchanged p R before (sound-store p k R before er (sym e ∙ h)) (outcomeOf p R (parse p R before) q) (no RecordBroken 0)
+        (unchanged p R before (sound-store p k i R before er (sym e ∙ h)) (outcomeOf p R (parse p R before) q) (no RecordBroken 0)
         (ap (outcomeOf p R (parse p R before)) eq ∙ broken-outcome p R (parse p R before) x) a f)
 
 -- ---- what a record says, its two length bytes included

@@ -106,7 +106,7 @@ module _ (p : Profile) (R : ℕ) (s : List ℕ) (b : LaidStore p R s) (i : ℕ) 
       cells-counted = counted ∙ ap (λ (x : Table). length (x .columns)) is-own ∙ sym (held-state p R s b .rows row (row-in p R s b i h) .full)
 
       pub cells-few : m ≤ p .columns
-      cells-few = omega (arith, counted, few-columns p (b .coded .known) R (parse p R s) (held-state p R s b) (tableIn p R s t) (nth-in tables t (tableIn p R s t) (table-there p R s t table-inside)))
+      cells-few = omega (arith, counted, few-columns p R (parse p R s) (held-state p R s b) (tableIn p R s t) (nth-in tables t (tableIn p R s t) (table-there p R s t table-inside)))
 
 -- ---- get: the keys `all`, k of them passed over, `rest` behind them
 

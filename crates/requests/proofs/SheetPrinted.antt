@@ -14,7 +14,7 @@ use Rattle.rules.specs.Layout.{image, parse, placesOf}
 use Rattle.rules.proofs.Cases.{rules}
 use Rattle.rules.proofs.Valid.{valid-laid, empty-valid}
 use Rattle.rules.proofs.Whole.{places-image, parse-image, fresh-sound}
-use Rattle.rules.proofs.Widths.{full-known}
+use Rattle.rules.proofs.Widths.{full-known, full-indexed}
 use Rattle.records.specs.Reading.{andThen, times, flagged, byteAt, byteFrom}
 use Rattle.records.specs.Record.{valuesAt, columnAt, columnsAt, mapAt, pairAt}
 use Rattle.records.specs.Record.{createAt, dropAt, insertAt, updateAt, keysAt, lookupAt, scanAt, operandsAt, requestOf}
@@ -52,10 +52,10 @@ pub sheet-run : (after out done : List ℕ) (r : Ran) → Many full sheetBytes t
 sheet-run after out done r m h =
     let fresh : List ℕ = image full 70 empty in
     let laid = valid-laid (empty-valid full 70) in
-    let n : placesOf full fresh ≡ 70 = places-image full full-known 70 (omega arith) empty laid in
-    let s : parse full 70 fresh ≡ empty = parse-image full full-known 70 (omega arith) empty laid in
+    let n : placesOf full fresh ≡ 70 = places-image full full-known full-indexed 70 (omega arith) empty laid in
+    let s : parse full 70 fresh ≡ empty = parse-image full full-known full-indexed 70 (omega arith) empty laid in
     let t = ap (λ (x : State). textOf full 70 x (recordsIn full sheetBytes true) 0) s ∙ sheet-printed in
     let x = subst (λ (k : ℕ). Runs full k sheetBytes true 0 fresh after out done r) n
-    (m .runs (fresh-sound full 70 full-known (omega arith) (omega arith))) in
+    (m .runs (fresh-sound full 70 full-known full-indexed (omega arith) (omega arith))) in
     let w = all-answered full 70 sheetBytes true 0 fresh after out done r x (omega (arith, h, ap length t)) in
     (w .1, w .2 ∙ t)

@@ -1,6 +1,6 @@
 -- A record of bytes that is read says a readable request, so it keeps a valid state valid; what a lent store is promised where it is sound
 -- and where it is not. Assumes nothing.
-use Prim.Native.Nat.{ℕ, _+_, _-_, _≤_, _<_}
+use Prim.Native.Nat.{ℕ, _+_, _≤_, _<_}
 use mathlib.Core.Path.{_≡_, sym, _∙_, ap, subst}
 use mathlib.Core.Bool.{Bool, true, false, cond}
 use mathlib.Core.List.{List}
@@ -12,7 +12,7 @@ use Rattle.forms.specs.Read.{Read, got, broken}
 use Rattle.rules.specs.declared.profile.Profile.{Profile}
 use Rattle.rules.specs.declared.answer.Answer.{Answer}
 use Rattle.rules.specs.declared.answer.Refusal.the-variants.{StoreUnsound}
-use Rattle.rules.specs.Profile.{placesMost, Known}
+use Rattle.rules.specs.Profile.{placesMost, Known, Indexed}
 use Rattle.rules.specs.State.{State}
 use Rattle.rules.specs.Layout.{image, parse, placesOf}
 use Rattle.rules.specs.Request.{Request, said, no}
@@ -66,8 +66,8 @@ module _ (p : Profile) where
     outcome-valid s (got q n) h ok = step-valid p R s q h ok
     outcome-valid s (broken x) h ok = ok
 
-    pub valid-sound : Known p → 1 ≤ R → R ≤ placesMost → (s : State) → Valid p R s → sound p (image p R s) ≡ true
-    valid-sound known least most s ok = sound-image p known R most s (valid-laid ok) (valid-of p R s ok) least
+    pub valid-sound : Known p → Indexed p → 1 ≤ R → R ≤ placesMost → (s : State) → Valid p R s → sound p (image p R s) ≡ true
+    valid-sound known indexed least most s ok = sound-image p known indexed R most s (valid-laid ok) (valid-of p R s ok) least
 
   -- ---- a lent store: refused with 38 where it is not sound, else what the record's outcome says
 

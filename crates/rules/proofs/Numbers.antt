@@ -11,7 +11,7 @@ use Rattle.values.specs.Basic.{any, nth, orDefault, _orElse_}
 use Rattle.values.specs.Value.{Value, before}
 use Rattle.rules.specs.declared.profile.Profile.{Profile}
 use Rattle.rules.specs.declared.answer.Refusal.{Refusal}
-use Rattle.rules.specs.declared.answer.Refusal.the-variants.{Accepted, RecordBroken, UnknownTable, TableExists, EmptyTableName, NoColumns, KeyColumnOutOfRange, EmptyColumnName, KeyNullable, KeyNotUnique, KeyIndexed, NullableWithoutDefault, NullDefault, DefaultKind, UniqueNotIndexed, ReferenceNotIndexed, UnknownTarget, TargetKind, ColumnTwice, TablesFull, TableReferenced, TooManyValues, MapCount, NoDefault, MapColumn, RowSize, KeyUndefined, KeyExists, WrongKind, NullNotAllowed, TargetMissing, ValueExists, RowReferenced, RowsFull, RowAbsent, KeysNotRising, IndexFull, NotIndexed, StoreUnsound}
+use Rattle.rules.specs.declared.answer.Refusal.the-variants.{Accepted, RecordBroken, UnknownTable, TableExists, EmptyTableName, NoColumns, KeyColumnOutOfRange, EmptyColumnName, KeyNullable, KeyNotUnique, KeyIndexed, NullableWithoutDefault, NullDefault, DefaultKind, UniqueNotIndexed, ReferenceNotIndexed, UnknownTarget, TargetKind, ColumnTwice, TablesFull, TableReferenced, TooManyValues, MapCount, NoDefault, MapColumn, RowSize, KeyUndefined, KeyExists, WrongKind, NullNotAllowed, TargetMissing, ValueExists, RowReferenced, RowsFull, RowAbsent, KeysNotRising, NotIndexed, StoreUnsound}
 use Rattle.rules.specs.Refusal.{numberOf}
 use Rattle.rules.specs.State.{Name, sameName, Column, Table, Row, State}
 use Rattle.rules.specs.Request.{Pair}
@@ -25,13 +25,13 @@ use Rattle.rules.proofs.Lists.{any-is}
 
 -- ---- a number names one kind
 
--- the kinds in the order of their numbers
+-- the kinds in the order of their numbers, `Accepted` where none has the number
 kinds : List Refusal
 kinds =
     Accepted ∷ RecordBroken ∷ UnknownTable ∷ TableExists ∷ EmptyTableName ∷ NoColumns ∷ KeyColumnOutOfRange ∷ EmptyColumnName ∷ KeyNullable ∷ KeyNotUnique
     ∷ KeyIndexed ∷ NullableWithoutDefault ∷ NullDefault ∷ DefaultKind ∷ UniqueNotIndexed ∷ ReferenceNotIndexed ∷ UnknownTarget ∷ TargetKind ∷ ColumnTwice ∷ TablesFull
     ∷ TableReferenced ∷ TooManyValues ∷ MapCount ∷ NoDefault ∷ MapColumn ∷ RowSize ∷ KeyUndefined ∷ KeyExists ∷ WrongKind ∷ NullNotAllowed
-    ∷ TargetMissing ∷ ValueExists ∷ RowReferenced ∷ RowsFull ∷ RowAbsent ∷ KeysNotRising ∷ IndexFull ∷ NotIndexed ∷ StoreUnsound ∷ []
+    ∷ TargetMissing ∷ ValueExists ∷ RowReferenced ∷ RowsFull ∷ RowAbsent ∷ KeysNotRising ∷ Accepted ∷ NotIndexed ∷ StoreUnsound ∷ []
 
 named : ℕ → Refusal
 named n = orDefault (nth kinds n) Accepted
@@ -74,7 +74,6 @@ named-number RowReferenced = refl
 named-number RowsFull = refl
 named-number RowAbsent = refl
 named-number KeysNotRising = refl
-named-number IndexFull = refl
 named-number NotIndexed = refl
 named-number StoreUnsound = refl
 
@@ -210,7 +209,7 @@ row-only ns a b c h f g l = either ns a (b orElse c) f (either ns b c (λ k e. m
 
 -- a row that needs a place
 abbrev pub newNumbers : List ℕ
-newNumbers = 26 ∷ 27 ∷ 28 ∷ 29 ∷ 30 ∷ 31 ∷ 33 ∷ 36 ∷ []
+newNumbers = 26 ∷ 27 ∷ 28 ∷ 29 ∷ 30 ∷ 31 ∷ 33 ∷ []
 
 pub new-only : (p : Profile) (R : ℕ) (s : State) (t : Table) (v : List Value) → Only newNumbers (rowFault p R s t false v)
 unfolding rowFault every
@@ -218,7 +217,7 @@ new-only p R s t v = row-only newNumbers _ _ _ refl (only-first newNumbers _ ref
 
 -- and one that takes its own
 abbrev pub sameNumbers : List ℕ
-sameNumbers = 26 ∷ 28 ∷ 29 ∷ 30 ∷ 31 ∷ 34 ∷ 36 ∷ []
+sameNumbers = 26 ∷ 28 ∷ 29 ∷ 30 ∷ 31 ∷ 34 ∷ []
 
 pub same-only : (p : Profile) (R : ℕ) (s : State) (t : Table) (v : List Value) → Only sameNumbers (rowFault p R s t true v)
 unfolding rowFault every

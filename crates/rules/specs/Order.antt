@@ -21,7 +21,6 @@ use Rattle.rules.specs.Sheet.{Case, says, int, keyColumn, plan}
 -- - 2 and 20, 2 and 32: no column references a table that is not stored. 2 and what is asked of a table's columns or rows.
 -- - 26 and 27: no stored key is undefined. 27 or 33, and 34: of new rows, and of rows that keep their key.
 -- - In one column of a row: NULL breaks 29 alone. 28 and 31: stored values have their column's kind. 30 and 31: `not-both` of proofs/Never.
--- - 36: it never comes (proofs/Small).
 
 -- a request beside its answer
 abbrev pub Line : Type 0

@@ -1,7 +1,7 @@
 -- The kinds of refusal and document 01's number of each ("Numbers of refusal"). Assumes nothing.
 use Prim.Native.Nat.{ℕ}
 use Rattle.rules.specs.declared.answer.Refusal.{Refusal}
-use Rattle.rules.specs.declared.answer.Refusal.the-variants.{Accepted, RecordBroken, UnknownTable, TableExists, EmptyTableName, NoColumns, KeyColumnOutOfRange, EmptyColumnName, KeyNullable, KeyNotUnique, KeyIndexed, NullableWithoutDefault, NullDefault, DefaultKind, UniqueNotIndexed, ReferenceNotIndexed, UnknownTarget, TargetKind, ColumnTwice, TablesFull, TableReferenced, TooManyValues, MapCount, NoDefault, MapColumn, RowSize, KeyUndefined, KeyExists, WrongKind, NullNotAllowed, TargetMissing, ValueExists, RowReferenced, RowsFull, RowAbsent, KeysNotRising, IndexFull, NotIndexed, StoreUnsound}
+use Rattle.rules.specs.declared.answer.Refusal.the-variants.{Accepted, RecordBroken, UnknownTable, TableExists, EmptyTableName, NoColumns, KeyColumnOutOfRange, EmptyColumnName, KeyNullable, KeyNotUnique, KeyIndexed, NullableWithoutDefault, NullDefault, DefaultKind, UniqueNotIndexed, ReferenceNotIndexed, UnknownTarget, TargetKind, ColumnTwice, TablesFull, TableReferenced, TooManyValues, MapCount, NoDefault, MapColumn, RowSize, KeyUndefined, KeyExists, WrongKind, NullNotAllowed, TargetMissing, ValueExists, RowReferenced, RowsFull, RowAbsent, KeysNotRising, NotIndexed, StoreUnsound}
 
 abbrev pub numberOf : Refusal → ℕ
 numberOf Accepted = 0
@@ -40,6 +40,5 @@ numberOf RowReferenced = 32
 numberOf RowsFull = 33
 numberOf RowAbsent = 34
 numberOf KeysNotRising = 35
-numberOf IndexFull = 36
 numberOf NotIndexed = 37
 numberOf StoreUnsound = 38

@@ -20,13 +20,13 @@ abbrev pub createNumbers : List ℕ
 createNumbers = 3 ∷ 4 ∷ 5 ∷ 6 ∷ 7 ∷ 8 ∷ 9 ∷ 10 ∷ 11 ∷ 12 ∷ 13 ∷ 14 ∷ 15 ∷ 16 ∷ 17 ∷ 18 ∷ 19 ∷ []
 
 abbrev pub insertNumbers : List ℕ
-insertNumbers = 2 ∷ 24 ∷ 21 ∷ 22 ∷ 23 ∷ 26 ∷ 27 ∷ 28 ∷ 29 ∷ 30 ∷ 31 ∷ 33 ∷ 36 ∷ []
+insertNumbers = 2 ∷ 24 ∷ 21 ∷ 22 ∷ 23 ∷ 26 ∷ 27 ∷ 28 ∷ 29 ∷ 30 ∷ 31 ∷ 33 ∷ []
 
 abbrev pub pairNumbers : List ℕ
-pairNumbers = 26 ∷ 27 ∷ 28 ∷ 29 ∷ 30 ∷ 31 ∷ 32 ∷ 33 ∷ 34 ∷ 36 ∷ []
+pairNumbers = 26 ∷ 27 ∷ 28 ∷ 29 ∷ 30 ∷ 31 ∷ 32 ∷ 33 ∷ 34 ∷ []
 
 abbrev pub updateNumbers : List ℕ
-updateNumbers = 2 ∷ 35 ∷ 25 ∷ 26 ∷ 27 ∷ 28 ∷ 29 ∷ 30 ∷ 31 ∷ 32 ∷ 33 ∷ 34 ∷ 36 ∷ []
+updateNumbers = 2 ∷ 35 ∷ 25 ∷ 26 ∷ 27 ∷ 28 ∷ 29 ∷ 30 ∷ 31 ∷ 32 ∷ 33 ∷ 34 ∷ []
 
 abbrev pub numbersOf : Request → List ℕ
 numbersOf (Create t) = createNumbers

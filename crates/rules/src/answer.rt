@@ -44,7 +44,6 @@ pub enum Refusal {
     RowsFull,
     RowAbsent,
     KeysNotRising,
-    IndexFull,
     NotIndexed,
     StoreUnsound,
 }
@@ -101,7 +100,6 @@ pub fn number(k: Refusal) -> u64
         Refusal::RowsFull => 33,
         Refusal::RowAbsent => 34,
         Refusal::KeysNotRising => 35,
-        Refusal::IndexFull => 36,
         Refusal::NotIndexed => 37,
         Refusal::StoreUnsound => 38,
     }

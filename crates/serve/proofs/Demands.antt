@@ -45,7 +45,7 @@ use Rattle.rules.proofs.Frame.{untouched}
 use Rattle.rules.proofs.Valid.{Valid, valid-laid}
 use Rattle.sound.proofs.Lengths.{right-is}
 use Rattle.rules.proofs.Whole.{sound-is, image-parse, fresh-sound, parse-image}
-use Rattle.rules.proofs.Widths.{full-known}
+use Rattle.rules.proofs.Widths.{full-known, full-indexed}
 use Rattle.requests.proofs.Lending.{full-coded, sound-store}
 use Rattle.requests.proofs.Entries.{lines-for, unsound-refused, sound-answered}
 use Rattle.requests.proofs.Validity.{whole-readable, outcome-valid, valid-sound}
@@ -70,7 +70,7 @@ demand-1-one rec before after a h l =
     stays-sound e =
         let b = sound-is full before e in
         subst (λ (x : List ℕ). sound full x ≡ true) (sym (sound-answered (wholeOf full rec) before after a l e .bytes))
-        (valid-sound full (placesOf full before) full-known (b .least) (b .most) _
+        (valid-sound full (placesOf full before) full-known full-indexed (b .least) (b .most) _
         (outcome-valid full (placesOf full before) (parse full (placesOf full before) before) (wholeOf full rec) (whole-readable full rec h) (b .valid)))
 
 -- any number of calls for one record
@@ -116,7 +116,7 @@ module _ (before after : List ℕ) (a : Answer) where
   no-changes (got q e) = unchanged full places stands q
   no-changes (broken x) = λ h k. refl
 
-  -- every number but 26 to 34 and 36 leaves every byte as it was, 38 and 1 too
+  -- every number but 26 to 34 leaves every byte as it was, 38 and 1 too
   pub refused-unchanged : (w : Read Request) → Lent full w before after a → isAccepted (said a) ≡ false → oneOf stayNumbers (said a .kind) ≡ false → after ≡ before
   refused-unchanged w l f g =
       none-changed w l
@@ -213,7 +213,7 @@ demand-2-pieces before h ds buffer read wrote after kept g d e n =
     let R : ℕ = placesOf full before in
     demand-2-whole R before read (standing after g kept) wrote
     (subst (λ (b : Bool). Came full R b (start before) read (standing after g kept) wrote) e
-    (came-doings R ds started g before buffer read wrote after kept (sound-store full full-coded R before refl h) d))
+    (came-doings R ds started g before buffer read wrote after kept (sound-store full full-coded full-indexed R before refl h) d))
     n
 
 -- and at any moment before it
@@ -224,7 +224,7 @@ pub demand-2-moment : (before : List ℕ) → sound full before ≡ true
     × (after ≡ image full R (stateOf full R (parse full R before) (take k (recordsIn full (read ++ more) true))))
 demand-2-moment before h ds buffer read wrote after kept more g d e =
     let R : ℕ = placesOf full before in
-    let c = came-doings R ds started g before buffer read wrote after kept (sound-store full full-coded R before refl h) d in
+    let c = came-doings R ds started g before buffer read wrote after kept (sound-store full full-coded full-indexed R before refl h) d in
     let f = demand-2-front R (g .ended) before read (standing after g kept) wrote more c e in
     (f .0, c .count, f .1, f .2)
 
@@ -243,12 +243,12 @@ pub fresh-is-sound : (buffer fresh : List ℕ) (a : Answer) → Freshened full b
 fresh-is-sound buffer fresh a f h =
     let b = right-is full buffer h in
     subst (λ (x : List ℕ). sound full x ≡ true) (sym (f .bytes ∙ ap (λ (x : Bool). cond x (image full (placesOf full buffer) empty) buffer) h))
-    (fresh-sound full (placesOf full buffer) full-known (b .least) (b .most))
+    (fresh-sound full (placesOf full buffer) full-known full-indexed (b .least) (b .most))
 
 -- byte for byte: the index area is the one rebuilt from schemas and rows, no two places share a defined value of a unique column, every reference that is
 -- not NULL names a stored row. Of any sound store
 pub demand-3 : (b : List ℕ) → sound full b ≡ true → Demand3 full (placesOf full b) b
-demand-3 b h = demand-sound full full-known b h
+demand-3 b h = demand-sound full full-known full-indexed b h
 
 -- so after any number of calls for one record,
 pub demand-3-calls : (buffer fresh b : List ℕ) (a : Answer) → Freshened full buffer fresh a → rightLength full buffer ≡ true
@@ -280,7 +280,7 @@ demand-3-others-one rec before after a n h l e sp =
     let s : State = parse full R before in
     let z : State = applyAll ((outcomeOf full R s (wholeOf full rec)) .changes) s in
     let v : Valid full R z = outcome-valid full R s (wholeOf full rec) (whole-readable full rec h) (b .valid) in
-    let k : parse full R after ≡ z = ap (parse full R) (sound-answered (wholeOf full rec) before after a l e .bytes) ∙ parse-image full full-known R (b .most) z (valid-laid v) in
+    let k : parse full R after ≡ z = ap (parse full R) (sound-answered (wholeOf full rec) before after a l e .bytes) ∙ parse-image full full-known full-indexed R (b .most) z (valid-laid v) in
     subst (Untouched n s) (sym k) (demand-3-others R s (wholeOf full rec) n sp)
 
 -- ==== THE KIOSK'S LOG: it is replayed over a fresh store (`c`, a run that more may follow), its torn bytes are cut off, and as many as are

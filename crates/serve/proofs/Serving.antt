@@ -1,5 +1,5 @@
 -- A run over an input, read by read. Assumes nothing.
-use Prim.Native.Nat.{ℕ, _+_, _-_, _≤_, _<_}
+use Prim.Native.Nat.{ℕ, _+_, _≤_, _<_}
 use native.Mathlib.Omega.{arith}
 use mathlib.Core.Path.{_≡_, refl, sym, _∙_, ap, subst}
 use mathlib.Core.Bool.{Bool, true, false, true≢false}
@@ -155,12 +155,12 @@ module _ (p : Profile) (R : ℕ) (before : List ℕ) where
 pub store-sound : (p : Profile) (R : ℕ) (s : List ℕ) → Store p R s → sound p s ≡ true
 store-sound p R s b =
     subst (λ (l : List ℕ). sound p l ≡ true) (sym (b .bytes))
-    (sound-image p (b .coded .known) R (b .places) (parse p R s) (valid-laid (valid-is p R (parse p R s) (b .valid))) (b .valid) (b .some))
+    (sound-image p (b .coded .known) (b .indexed) R (b .places) (parse p R s) (valid-laid (valid-is p R (parse p R s) (b .valid))) (b .valid) (b .some))
 
 pub store-places : (p : Profile) (R : ℕ) (s : List ℕ) → Store p R s → placesOf p s ≡ R
 store-places p R s b =
     ap (placesOf p) (b .bytes)
-    ∙ places-image p (b .coded .known) R (b .places) (parse p R s) (valid-laid (valid-is p R (parse p R s) (b .valid)))
+    ∙ places-image p (b .coded .known) (b .indexed) R (b .places) (parse p R s) (valid-laid (valid-is p R (parse p R s) (b .valid)))
 
 -- ---- tested once
 

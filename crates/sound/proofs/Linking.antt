@@ -13,8 +13,7 @@ use Rattle.values.specs.Value.{Value, isNull}
 use Rattle.values.specs.Cell.{readName}
 use Rattle.rules.specs.declared.profile.Profile.{Profile}
 use Rattle.rules.specs.State.{Name, Column, Table, Row, tableNamed, hasRow}
-use Rattle.rules.specs.Rows.{indexedCount}
-use Rattle.rules.specs.Index.{columnsOf, entriesOf}
+use Rattle.rules.specs.Index.{Entry, columnsOf, entriesOf, indexedCount}
 use Rattle.rules.specs.Layout.{lists, parse, readTable, readRow}
 use Rattle.rules.specs.Sound.{everyCell, held, referencesHeld}
 use Rattle.rules.proofs.Index.{entries-length}
@@ -22,10 +21,8 @@ use Rattle.laid.specs.Store.{Coded}
 use Rattle.laid.specs.Column.{columnAt}
 use Rattle.laid.specs.Catalog.{TableBytes}
 use Rattle.sound.specs.Tested.{cellsIn, entriesWanted, enteredCell, enteredRow}
-use Rattle.rules.specs.Index.{Entry}
 use Rattle.laid.proofs.Finding.{drop-nth, nth-map, nth-getD}
-use Rattle.laid.proofs.Columns.{count-byte}
-use Rattle.checks.proofs.Fitting.{indexedFrom, indexed-more, indexed-not, indexed-end}
+use Rattle.laid.proofs.Columns.{count-byte, column-drop}
 use Rattle.sound.proofs.RowPieces.{row-name, row-cells, row-of-its, row-of-none}
 
 -- ---- a reference
@@ -78,16 +75,32 @@ module _ (p : Profile) (ts : List Table) (row : List ℕ) where
 
 -- ---- indexed columns, counted
 
-pub counted-next : (p : Profile) (rec : List ℕ) → TableBytes p rec → (i n m : ℕ) (c : Column) → i < getD rec 26 0 → c ≡ columnAt p rec i → m ≡ cond (c .index) 1 0
-    → n + indexedFrom p rec i ≡ indexedCount (readTable p rec) → n + m + indexedFrom p rec (i + 1) ≡ indexedCount (readTable p rec)
-counted-next p rec b i n m c h ec em k = on (c .index) (ap (λ (x : Column). x .index) (sym ec)) em
-  where
-    on : (q : Bool) → (columnAt p rec i) .index ≡ q → m ≡ cond q 1 0 → n + m + indexedFrom p rec (i + 1) ≡ indexedCount (readTable p rec)
-    on true x e = indexed-more p rec b n i (omega (arith, count-byte p rec)) (n + m) x (omega arith) k
-    on false x e = indexed-not p rec b n i (omega (arith, count-byte p rec)) (n + m) x (omega arith) k
+module _ (p : Profile) (rec : List ℕ) where
+  -- those from column i on
+  unfoldable pub indexedFrom : ℕ → ℕ
+  indexedFrom i = length (keep (λ (c : Column). c .index) (drop i ((readTable p rec) .columns)))
 
-pub counted-end : (p : Profile) (rec : List ℕ) (i n : ℕ) → getD rec 26 0 ≤ i → n + indexedFrom p rec i ≡ indexedCount (readTable p rec) → n ≡ indexedCount (readTable p rec)
-counted-end p rec i n h k = indexed-end p rec n i (omega (arith, count-byte p rec)) k
+  pub counted-start : 0 + indexedFrom 0 ≡ indexedCount (readTable p rec)
+  unfolding indexedFrom
+  counted-start = omega arith
+
+  one-counted : TableBytes p rec → (i : ℕ) → i < getD rec 26 0 → (q : Bool) → (columnAt p rec i) .index ≡ q → indexedFrom i ≡ cond q 1 0 + indexedFrom (i + 1)
+  unfolding indexedFrom
+  one-counted b i h true x = rw (add-one, column-drop p rec b i (omega (arith, count-byte p rec)), x) (omega arith)
+  one-counted b i h false x = rw (add-one, column-drop p rec b i (omega (arith, count-byte p rec)), x) (omega arith)
+
+  pub counted-next : TableBytes p rec → (i n m : ℕ) (c : Column) → i < getD rec 26 0 → c ≡ columnAt p rec i → m ≡ cond (c .index) 1 0
+      → n + indexedFrom i ≡ indexedCount (readTable p rec) → n + m + indexedFrom (i + 1) ≡ indexedCount (readTable p rec)
+  counted-next b i n m c h ec em k = omega (arith, em, one-counted b i h (c .index) (ap (λ (x : Column). x .index) (sym ec)), k)
+
+  none-left : (i : ℕ) → getD rec 26 0 ≤ i → indexedFrom i ≡ 0
+  unfolding indexedFrom
+  none-left i h =
+      let e : drop i ((readTable p rec) .columns) ≡ [] = drop-of-length-le ((readTable p rec) .columns) {i = i} (omega (arith, count-byte p rec, h)) in
+      rw e
+
+  pub counted-end : (i n : ℕ) → getD rec 26 0 ≤ i → n + indexedFrom i ≡ indexedCount (readTable p rec) → n ≡ indexedCount (readTable p rec)
+  counted-end i n h k = omega (arith, k, none-left i h)
 
 -- ---- the rows' entries, counted
 

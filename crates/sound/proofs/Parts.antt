@@ -14,7 +14,7 @@ use Rattle.values.proofs.Scans.{leqb-refl, leqb-eq}
 use Rattle.values.proofs.Cells.{read-normal}
 use Rattle.areas.proofs.Sorting.{find-in}
 use Rattle.rules.specs.declared.profile.Profile.{Profile}
-use Rattle.rules.specs.Profile.{Known}
+use Rattle.rules.specs.Profile.{Known, Indexed}
 use Rattle.rules.specs.State.{Table, Row, State, cmpTable, cmpRow, isNamed}
 use Rattle.rules.specs.Schema.{schemaFault}
 use Rattle.rules.specs.Index.{cmpEntry, indexOf}
@@ -151,7 +151,7 @@ same-lists e g h = rw (e, g, h)
 module _ (p : Profile) (k : Known p) (s : List ℕ) where
   -- ---- a sound store passes each part
 
-  module _ (h : sound p s ≡ true) where
+  module _ (i : Indexed p) (h : sound p s ≡ true) where
     abbrev R : ℕ
     R = placesOf p s
 
@@ -166,7 +166,7 @@ module _ (p : Profile) (k : Known p) (s : List ℕ) where
     c = conjuncts-is p R x (all-head _ _ (all-tail _ _ (all-tail _ _ h)))
 
     parts-lists : lists p R s ≡ recordsOf p x (indexOf (x .tables) (x .rows))
-    parts-lists = laid-lists p R s _ (sound-laid p s k h)
+    parts-lists = laid-lists p R s _ (sound-laid p s k i h)
 
     tables-passed : every (isTable p) ((lists p R s) .schemas) ≡ true
     unfolding recordsOf isTable
@@ -184,7 +184,7 @@ module _ (p : Profile) (k : Known p) (s : List ℕ) where
         (every-map (rowRecord p) (isRow p (x .tables)) (x .rows)
         (λ r m.
         let w = (valid-laid v) .rows r m in
-        let e = row-back p (k .cell) r (good-row p k R x (valid-laid v) r m) (x .tables) (w .table) (w .named) (table-named p k R x (valid-laid v) r m) (w .full) (key-is p k R x (valid-laid v) r m) in
+        let e = row-back p (k .cell) r (good-row p R x (valid-laid v) r m) (x .tables) (w .table) (w .named) (table-named p R x (valid-laid v) r m) (w .full) (key-is p R x (valid-laid v) r m) in
         rw e
         (all-cons _ _ (leqb-refl (rowRecord p r))
         (all-cons _ _ (every-at (hasTable (x .tables)) (x .rows) (c .table) r m)
@@ -202,13 +202,13 @@ module _ (p : Profile) (k : Known p) (s : List ℕ) where
     ok : (r : Row) → In r (x .rows) → Rowed (x .tables) r
     ok r m =
         let w = (valid-laid v) .rows r m in
-        record { table = w .table; named = w .named; full = w .full; faults = v .faults (w .table) (table-in p k R x (valid-laid v) r m) }
+        record { table = w .table; named = w .named; full = w .full; faults = v .faults (w .table) (table-in p R x (valid-laid v) r m) }
 
     index-passed : indexTested p R s ≡ true
     unfolding indexTested entriesIn ok
     index-passed =
         all-cons _ _ entries-passed
-        (rw (sound-index p s k h)
+        (rw (sound-index p s k i h)
         (all-cons _ _ (sorted-of cmpEntry _ (index-sorted (x .tables) (x .rows)))
         (all-cons _ _ (eq-eqb _ _ (index-length (x .tables) (x .rows) (v .rows-sorted)))
         (all-cons _ _
@@ -219,7 +219,7 @@ module _ (p : Profile) (k : Known p) (s : List ℕ) where
     unfolding cataloged rowed
     sound-parts =
         record {
-          laid = laid-tested p R s _ (sound-laid p s k h);
+          laid = laid-tested p R s _ (sound-laid p s k i h);
           tables = all-cons _ _ tables-passed (all-cons _ _ (c .tables) all-nil);
           faults = c .faults;
           rows = all-cons _ _ rows-passed (all-cons _ _ (c .rows) all-nil);

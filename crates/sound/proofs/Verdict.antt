@@ -12,7 +12,7 @@ use Rattle.areas.specs.Counted.{countAt}
 use Rattle.areas.specs.Sorted.{All}
 use Rattle.values.proofs.Scans.{leqb-eq}
 use Rattle.rules.specs.declared.profile.Profile.{Profile}
-use Rattle.rules.specs.Profile.{schemaWidth, placesMost, storeLength}
+use Rattle.rules.specs.Profile.{schemaWidth, placesMost, storeLength, Indexed}
 use Rattle.rules.specs.State.{cmpTable, cmpRow}
 use Rattle.rules.specs.Index.{cmpEntry}
 use Rattle.rules.specs.Layout.{Schemas, Entries, entriesCount, lists, parse, placesOf, tableRecord, readTable, readEntry}
@@ -59,7 +59,7 @@ catalog-of p R s i h =
 
 -- ---- the verdict
 
-module _ (p : Profile) (k : Coded p) (s : List ℕ) where
+module _ (p : Profile) (k : Coded p × Indexed p) (s : List ℕ) where
   pub no-length : (b : Bool) → b ≡ rightLength p s → not b ≡ true → false ≡ sound p s
   unfolding sound all
   no-length b e h = rw (was-false e h)
@@ -73,7 +73,7 @@ module _ (p : Profile) (k : Coded p) (s : List ℕ) where
     no t f b g h = on (sound p s) refl
       where
         on : (b : Bool) → sound p s ≡ b → false ≡ b
-        on true q = absurd (true≢false (sym (f (subst (λ (n : ℕ). Parts p n s) (sym e) (sound-parts p (k .known) s q))) ∙ was-false g h))
+        on true q = absurd (true≢false (sym (f (subst (λ (n : ℕ). Parts p n s) (sym e) (sound-parts p (k .0 .known) s (k .1) q))) ∙ was-false g h))
         on false q = refl
 
     pub no-layout : (b : Bool) → b ≡ laidOut p R s → not b ≡ true → false ≡ sound p s
@@ -123,7 +123,7 @@ module _ (p : Profile) (k : Coded p) (s : List ℕ) where
       unfolding indexTested
       verdict bs h1 z ez hz h3 f a ea ha h6 true eb =
           sym
-          (parts-sound p (k .known) s bs h1
+          (parts-sound p (k .0 .known) s bs h1
           (subst (λ (j : ℕ). Parts p j s) e
           (record {
             laid = was-true ez hz;
@@ -132,5 +132,5 @@ module _ (p : Profile) (k : Coded p) (s : List ℕ) where
             rows = f .tabled .rows;
             links = was-true ea ha;
             index = all-cons _ _ (f .entries) (all-cons _ _ (f .sorted) (all-cons _ _ (eq-eqb _ _ (entries-long ∙ sym en ∙ h6 ∙ em)) (all-cons _ _ (sym eb) all-nil)));
-          })) k)
+          })) (k .0))
       verdict bs h1 z ez hz h3 f a ea ha h6 false eb = no _ (λ x. all-head _ _ (all-tail _ _ (all-tail _ _ (all-tail _ _ (x .index))))) false eb refl

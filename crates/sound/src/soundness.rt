@@ -9,13 +9,13 @@ use laid::layout;
 use rules::profile;
 use rules::profile::Profile;
 ghost use mathlib.Core.Path.{_≡_};
-ghost use Rattle.rules.specs.Profile.{full};
+ghost use Rattle.rules.specs.Profile.{full, Indexed};
 ghost use Rattle.rules.specs.Sound.{sound};
 ghost use Rattle.laid.specs.Store.{Coded};
 
 // Whether the bytes are a sound store.
 pub fn is_sound_of(s: &[u8], p: Profile) -> bool
-    requires { ⌜ Coded p ⌝ }
+    requires { ⌜ Coded p × Indexed p ⌝ }
     ensures { λ r. ⌜ r ≡ sound p (now (s .entry)) ⌝ }
 {
     if !fresh::right_length(s, p) {

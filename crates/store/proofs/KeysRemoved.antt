@@ -75,12 +75,13 @@ module _ (p : Profile) (R : ℕ) (s : List ℕ) (b : LaidStore p R s) (t : ℕ) 
       subst (LaidState p R) (sym (removals-come ks n (parse p R s))) (fewer-laid p R (parse p R s) (held-state p R s b) (stays n ks))
 
   left-parse : parse p R s₁ ≡ applyAll (removalsIn p R s t ks) (parse p R s)
-  left-parse = ap (parse p R) e ∙ parse-image p (b .coded .known) R (b .places) (applyAll (removalsIn p R s t ks) (parse p R s)) left-state
+  left-parse = ap (parse p R) e ∙ parse-image p (b .coded .known) (b .indexed) R (b .places) (applyAll (removalsIn p R s t ks) (parse p R s)) left-state
 
   pub left-store : LaidStore p R s₁
   left-store =
       record {
         coded = b .coded;
+        indexed = b .indexed;
         places = b .places;
         laid = laid-of p R (parse p R s₁) (subst (LaidState p R) (sym left-parse) left-state);
         bytes = e ∙ ap (image p R) (sym left-parse);

@@ -56,11 +56,18 @@ use Rattle.laid.proofs.Stores.{store-valid, laid-store}
 
 module _ (p : Profile) (R : ℕ) (s : List ℕ) (b : Store p R s) (st : State) (v : Valid p R st) (s₁ : List ℕ) (e : s₁ ≡ image p R st) where
   pub reads-back : parse p R s₁ ≡ st
-  reads-back = ap (parse p R) e ∙ parse-image p (b .coded .known) R (b .places) st (valid-laid v)
+  reads-back = ap (parse p R) e ∙ parse-image p (b .coded .known) (b .indexed) R (b .places) st (valid-laid v)
 
   pub store-again : Store p R s₁
   store-again =
-      record { coded = b .coded; some = b .some; places = b .places; valid = rw reads-back (valid-of p R st v); bytes = e ∙ ap (image p R) (sym reads-back) }
+      record {
+        coded = b .coded;
+        indexed = b .indexed;
+        some = b .some;
+        places = b .places;
+        valid = rw reads-back (valid-of p R st v);
+        bytes = e ∙ ap (image p R) (sym reads-back);
+      }
 
 -- ---- a fault of a row, as the code has it
 
@@ -68,7 +75,7 @@ pub row-told : (p : Profile) (R : ℕ) (st : State) (t : Table) (u : Bool) (v : 
 unfolding rowFault
 row-told p R st t u v =
     or-told _ _ (told _ (refl, (refl, tt)))
-    (or-told _ _ (cells-told (st .rows) t u (keyOf t v) 0 (t .columns) v) (told _ (refl, (refl, (refl, tt)))))
+    (or-told _ _ (cells-told (st .rows) t u (keyOf t v) 0 (t .columns) v) (told _ (refl, (refl, tt))))
 
 pub fault-told : (k : Refusal) (o : Option Refusal) → k ≡ kindOfFault o → eqb (numberOf k) 0 ≡ false → o ≡ some k
 fault-told k none e n = absurd (true≢false (ap (λ (r : Refusal). eqb (numberOf r) 0) (sym e) ∙ n))

@@ -31,7 +31,7 @@ ghost use Rattle.laid.specs.Row.{cellsOf, tableIn, FullRow};
 ghost use Rattle.checks.specs.Keys.{valuesFrom};
 ghost use Rattle.store.specs.Removed.{removalsIn, Removes, pairOf};
 
-// Adds a full row, the request's row number n, to the table at place t: 26, 27; each column 28 to 31; 33, 36.
+// Adds a full row, the request's row number n, to the table at place t: 26, 27; each column 28 to 31; 33.
 pub fn insert(s: &mut [u8], p: Profile, places: usize, t: usize, n: usize, row: Row) -> Answer
     requires { ⌜ Store p places (now s) × FullRow p places (now s) t row ⌝ }
     ensures { λ r. ⌜ Stored p places (numbered n (insertRow p places (tableIn p places (now (s .entry)) t) (parse p places (now (s .entry))) (cellsOf row))) (now (s .entry)) (now (s .exit)) r ⌝ }
@@ -116,7 +116,7 @@ pub fn delete(
     answer::accepted(remove_keys(s, p, places, t, rec, at, count))
 }
 
-// A row in place of the stored one with its key: 26; each column 28 to 31; 34; 36.
+// A row in place of the stored one with its key: 26; each column 28 to 31; 34.
 fn same_key(s: &mut [u8], p: Profile, places: usize, t: usize, n: usize, row: Row) -> Answer
     requires { ⌜ Store p places (now s) × FullRow p places (now s) t row ⌝ }
     ensures { λ r. ⌜ Stored p places (numbered n (sameKey p places (tableIn p places (now (s .entry)) t) (parse p places (now (s .entry))) (cellsOf row))) (now (s .entry)) (now (s .exit)) r ⌝ }

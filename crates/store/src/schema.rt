@@ -1,5 +1,5 @@
 // What is wrong with a schema against the catalog (schema.rs: `Table::validate`, 4 to 18), and with a row against the store (`validate_row`: 26, 27, each
-// column 28 to 31, 34, 33, 36).
+// column 28 to 31, 34, 33).
 use checks::row_fault;
 use checks::schema_fault;
 use checks::schema_fault::Fault;
@@ -52,7 +52,7 @@ pub fn validate(s: &[u8], p: Profile, places: usize, rec: &[u8]) -> Fault
     schema_fault::repeat_fault(rec, p)
 }
 
-// A full row of the table at place t: 26, 27; each column 28 to 31; 34; 33, 36.
+// A full row of the table at place t: 26, 27; each column 28 to 31; 34; 33.
 pub fn validate_row(
     s: &[u8],
     p: Profile,
@@ -83,5 +83,5 @@ pub fn validate_row(
     if !answer::is_accepted(f) {
         return f;
     }
-    row_fault::place_fault(s, p, places, t, stored, update)
+    row_fault::place_fault(s, p, places, stored, update)
 }

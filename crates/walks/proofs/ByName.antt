@@ -66,7 +66,7 @@ module _ (p : Profile) (k : Known p) (R : ℕ) (s : State) (v : Valid p R s) (n 
   tables-named = all-of _ (s .tables) (λ t m. table-name p (k .cell) t (table-good p t (v .good-tables t m)))
 
   rows-named : All (λ (r : Row). readName (rowRecord p r) ≡ r .table) (s .rows)
-  rows-named = all-of _ (s .rows) (λ r m. row-name p (k .cell) r (good-row p k R s (valid-laid v) r m))
+  rows-named = all-of _ (s .rows) (λ r m. row-name p (k .cell) r (good-row p R s (valid-laid v) r m))
 
   entries-named : All (λ (e : Entry). readName (entryRecord p e) ≡ e .table) (indexed s)
   entries-named = all-of _ (indexed s) (λ e m. entry-name p (k .cell) e (good-entries p k R s (valid-laid v) e m))

@@ -34,7 +34,7 @@ module _ (p : Profile) (R : ℕ) (s : List ℕ) (b : LaidStore p R s) (n : Name)
   in-order = held-state p R s b .rows-sorted
 
   rows-named : All (λ (r : Row). readName (rowRecord p r) ≡ r .table) rows
-  rows-named = all-of _ rows (λ r m. row-name p (b .coded .known .cell) r (good-row p (b .coded .known) R (parse p R s) (held-state p R s b) r m))
+  rows-named = all-of _ rows (λ r m. row-name p (b .coded .known .cell) r (good-row p R (parse p R s) (held-state p R s b) r m))
 
   -- rows of tables with earlier names come first
   pub rows-run : RunIn p R Rows n s

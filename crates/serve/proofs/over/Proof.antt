@@ -4,6 +4,7 @@ use native.Mathlib.Omega.{arith}
 use denote.Ref.{now}
 use borrow.Author.Tests.{not-true, not-false}
 use Rattle.rules.specs.Profile.{full}
+use Rattle.rules.proofs.Widths.{full-indexed}
 use Rattle.requests.proofs.Lending.{full-coded, sound-store}
 use Rattle.serve.proofs.Serving.{served-unsound, served-sound}
 use borrow.Author.Needs.{needs}
@@ -69,7 +70,7 @@ run-requires c κs =
     let z = c .before .before .before .places-of in
     let t = c .before .before .before .before .before .before in
     let a = t .before .before .before .before .before .args in (
-      sound-store full full-coded (z .result) (now (a .s)) (z .ensures) (sym (t .is-sound .ensures) ∙ not-false _ (c .before .before .before .before .before .if1 .left)),
+      sound-store full full-coded full-indexed (z .result) (now (a .s)) (z .ensures) (sym (t .is-sound .ensures) ∙ not-false _ (c .before .before .before .before .before .if1 .left)),
       (omega arith, (search needs, search needs)),
     )
 

@@ -4,6 +4,7 @@ use native.Mathlib.Omega.{arith}
 use denote.Ref.{now}
 use borrow.Author.Tests.{not-true, not-false}
 use Rattle.rules.specs.Profile.{full}
+use Rattle.rules.proofs.Widths.{full-indexed}
 use Rattle.requests.proofs.Lending.{full-coded, sound-store, many-told, many-untold, many-ran}
 use borrow.Author.Needs.{needs}
 use Rattle.requests.proofs.entry.many.Statement.{statement}
@@ -48,7 +49,7 @@ run-requires c κs =
     let a = c .before .before .before .before .before .before .before .before .before .before .args in
     let t = c .before .before .before .before .before in
     let z = c .before .before in
-    (sound-store full full-coded (z .places-of .result) (a .s .now) (z .places-of .ensures) (sym (t .is-sound .ensures) ∙ not-false _ (c .before .before .before .before .if1 .left)), omega arith)
+    (sound-store full full-coded full-indexed (z .places-of .result) (a .s .now) (z .places-of .ensures) (sym (t .is-sound .ensures) ∙ not-false _ (c .before .before .before .before .if1 .left)), omega arith)
 
 same-length-4 : tie.Need-same-length-4
 same-length-4 c = search needs

@@ -5,6 +5,7 @@ use denote.Ref.{now}
 use borrow.Author.Tests.{not-true, not-false}
 use Rattle.forms.specs.Read.{Read}
 use Rattle.rules.specs.Profile.{full}
+use Rattle.rules.proofs.Widths.{full-indexed}
 use Rattle.rules.specs.Layout.{parse}
 use Rattle.rules.specs.Request.{Request}
 use Rattle.laid.specs.Store.{Stored}
@@ -52,7 +53,7 @@ returns-2 c =
     let z = c .before .before .before .before .before .before in
     let r = c .before .before .before .before .before in
     let k = c .before .before .before in
-    lent-broken full (a .s .now) (wholeOf full (a .rec .now)) (z .places-of .result) (z .places-of .ensures) (t .is-sound .result) (t .is-sound .ensures) (not-false _ (c .before .before .before .before .before .before .before .before .if1 .left)) full-coded 0 (whole-longer full (a .rec .now) (r .next-record .result) (r .next-record .ensures) _ (k .n .given .1) (c .before .if2 .taken)) (c .refused2 .result) (c .refused2 .ensures)
+    lent-broken full (a .s .now) (wholeOf full (a .rec .now)) (z .places-of .result) (z .places-of .ensures) (t .is-sound .result) (t .is-sound .ensures) (not-false _ (c .before .before .before .before .before .before .before .before .if1 .left)) full-coded full-indexed 0 (whole-longer full (a .rec .now) (r .next-record .result) (r .next-record .ensures) _ (k .n .given .1) (c .before .if2 .taken)) (c .refused2 .result) (c .refused2 .ensures)
 
 sub-execute : tie.Need-sub-execute
 sub-execute c =
@@ -76,7 +77,7 @@ execute-requires c κs =
     let a = c .before .before .before .before .before .before .before .before .before .before .before .before .before .before .args in
     let t = c .before .before .before .before .before .before .before .before .before .before in
     let z = c .before .before .before .before .before .before .before in
-    (sound-store full full-coded (z .places-of .result) (a .s .now) (z .places-of .ensures) (sym (t .is-sound .ensures) ∙ (not-false _ (c .before .before .before .before .before .before .before .before .before .if1 .left))), omega arith)
+    (sound-store full full-coded full-indexed (z .places-of .result) (a .s .now) (z .places-of .ensures) (sym (t .is-sound .ensures) ∙ (not-false _ (c .before .before .before .before .before .before .before .before .before .if1 .left))), omega arith)
 
 refused-requires-3 : tie.Need-refused-requires-3
 refused-requires-3 c κs = search needs
@@ -106,7 +107,7 @@ returns-4 c =
     let t = c .before .before .before .before .before .before in
     let z = c .before .before .before in
     let r = c .before .before in
-    lent-broken full (a .s .now) (wholeOf full (a .rec .now)) (z .places-of .result) (z .places-of .ensures) (t .is-sound .result) (t .is-sound .ensures) (not-false _ (c .before .before .before .before .before .if1 .left)) full-coded 0 (no-whole full (a .rec .now) (r .next-record .result) (r .next-record .ensures) (r .next-record .result) refl (not-whole full (a .rec .now) (r .next-record .result) (c .before .match .keys2))) (c .refused3 .result) (c .refused3 .ensures)
+    lent-broken full (a .s .now) (wholeOf full (a .rec .now)) (z .places-of .result) (z .places-of .ensures) (t .is-sound .result) (t .is-sound .ensures) (not-false _ (c .before .before .before .before .before .if1 .left)) full-coded full-indexed 0 (no-whole full (a .rec .now) (r .next-record .result) (r .next-record .ensures) (r .next-record .result) refl (not-whole full (a .rec .now) (r .next-record .result) (c .before .match .keys2))) (c .refused3 .result) (c .refused3 .ensures)
 
 pub one-spec : {M : Type 1} → statement M
 one-spec =

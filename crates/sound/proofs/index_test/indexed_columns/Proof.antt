@@ -3,13 +3,12 @@ use mathlib.Core.Path.{_≡_, refl}
 use Prim.Native.Nat.{_-_, _+_, _≤_, _<_}
 use native.Mathlib.Omega.{arith}
 use lib.ListN.{getD}
-use Rattle.rules.specs.Rows.{indexedCount}
+use Rattle.rules.specs.Index.{indexedCount}
 use Rattle.rules.specs.Layout.{readTable}
 use Rattle.laid.specs.Column.{columnOf}
 use Rattle.laid.proofs.Columns.{count-byte, columns-few, record-least}
-use Rattle.checks.proofs.Fitting.{indexedFrom, indexed-start}
 use Rattle.sound.proofs.Walks.{fewer-left, byte-fits, next-fits}
-use Rattle.sound.proofs.Linking.{counted-next, counted-end, one-most}
+use Rattle.sound.proofs.Linking.{indexedFrom, counted-start, counted-next, counted-end, one-most}
 use borrow.Author.Needs.{needs}
 use Rattle.sound.proofs.index_test.indexed_columns.Statement.{statement}
 use Rattle.sound.proofs.index_test.indexed_columns.Tie as tie
@@ -44,7 +43,7 @@ cast-count c = byte-fits (c .shared-slice-known2 .given 26)
 loop-holds : tie.Need-loop-holds Inv-loop μ-loop
 loop-holds c =
     let a = c .before .before .args in
-    (refl, omega arith, omega arith, indexed-start (a .p) (a .rec .now))
+    (refl, omega arith, omega arith, counted-start (a .p) (a .rec .now))
 
 read-column-requires : tie.Need-read-column-requires Inv-loop μ-loop
 read-column-requires c κs = (c .before .before .before .before .pre, omega (arith, few c, inner c))

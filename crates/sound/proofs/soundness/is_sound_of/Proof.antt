@@ -26,7 +26,7 @@ inside : (c : tie.Else2) →
     Inside (a .p) (c .before .before .places-of .result) (a .s .now)
 inside c =
     let a = c .before .before .before .before .before .before .args in
-    inside-of (a .p) (c .before .before .places-of .result) (a .s .now) (long (c .before .before) .1) (λ i. c .before .before .before .before .before .shared-slice-known .given i .fits) (c .before .before .before .before .before .before .pre) (long (c .before .before) .0) (was-true (c .before .is-laid-out .ensures) (c .if2 .left))
+    inside-of (a .p) (c .before .before .places-of .result) (a .s .now) (long (c .before .before) .1) (λ i. c .before .before .before .before .before .shared-slice-known .given i .fits) (c .before .before .before .before .before .before .pre .0) (long (c .before .before) .0) (was-true (c .before .is-laid-out .ensures) (c .if2 .left))
 
 listed : (c : tie.Else4) →
     let a = c .before .before .before .before .before .before .before .before .before .before .args in
@@ -60,7 +60,7 @@ filed : (c : tie.Else10) →
 filed c = record { tabled = tabled (c .before .before .before .before .before .before); entries = (was-true (c .before .before .before .are-entries .ensures) (c .before .before .if9 .left)); sorted = (was-true (c .before .are-entries-sorted .ensures) (c .if10 .left)) }
 
 right-length-requires : tie.Need-right-length-requires
-right-length-requires c κs = c .before .pre
+right-length-requires c κs = c .before .pre .0
 
 returns : tie.Need-returns
 returns c =
@@ -68,10 +68,10 @@ returns c =
     no-length (a .p) (c .before .before .before .pre) (a .s .now) _ (c .before .right-length .ensures) (c .if1 .taken)
 
 places-of-requires : tie.Need-places-of-requires
-places-of-requires c κs = c .before .before .before .pre
+places-of-requires c κs = c .before .before .before .pre .0
 
 is-laid-out-requires : tie.Need-is-laid-out-requires
-is-laid-out-requires c κs = (c .before .before .before .before .pre, long c .0, long c .1)
+is-laid-out-requires c κs = (c .before .before .before .before .pre .0, long c .0, long c .1)
 
 returns-2 : tie.Need-returns-2
 returns-2 c =

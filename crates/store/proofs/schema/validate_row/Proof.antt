@@ -148,9 +148,7 @@ returns-3 c =
     (sym (c .before .is-accepted .ensures) ∙ not-true _ (c .if4 .taken))
 
 place-fault-requires : tie.Need-place-fault-requires
-place-fault-requires c κs =
-    let b = start (read (c .before .before .before .before)) in
-    (laid-out b, b .pre .1 .known)
+place-fault-requires c κs = laid-out (start (read (c .before .before .before .before)))
 
 returns-4 : tie.Need-returns-4
 returns-4 c =
