@@ -4,8 +4,7 @@
   pace.py    a table: requests down, R = 64, 256, 1,024 and 4,096 across
 
 Each count is that of `lent` with the request less that of `lent` with a record that is broken (1), under callgrind: the same on every run. `lent` tests
-the whole store before and after it, which is in both and shown by itself: of the broken record the mean over the store before and the store
-after the request is taken. `valgrind` must be there, and `lent` built (`rt check lent`).
+the whole store first, which is in both and shown by itself. `valgrind` must be there, and `lent` built (`rt check lent`).
 """
 
 import os
@@ -76,9 +75,7 @@ def main():
             table.setdefault("test the store for soundness", []).append(nothing - unsound)
             for words, source in requests(plans, points):
                 count, lines = instructions(store, source, folder)
-                with open(os.path.join(folder, "after"), "rb") as f:
-                    after, _ = instructions(f.read(), BROKEN, folder)
-                table.setdefault(words, []).append(count - (broken + after) // 2)
+                table.setdefault(words, []).append(count - broken)
                 told.setdefault(words, []).append(lines.count("\n"))
     print("| request | %s |" % " | ".join("R = {:,}".format(places) for places in SIZES))
     print("|---|" + "---:|" * len(SIZES))
