@@ -220,13 +220,13 @@ module _ (p : Profile) (R : ℕ) (s₀ : List ℕ) (b : LaidStore p R s₀) (t :
   unfolding cellsOf
   added-full =
       sym (length-map (take (row .count) (row .cells)) held ∙ length-take-le (row .count) (row .cells) (pr .few))
-      ∙ own-full p kn R after after-laid T there r new-there refl
+      ∙ own-full p R after after-laid T there r new-there refl
 
   pub added-key-below : T .key < row .count
-  added-key-below = omega (arith, added-full, own-key-below p kn R after after-laid T there r new-there refl)
+  added-key-below = omega (arith, added-full, own-key-below p R after after-laid T there r new-there refl)
 
   key-is-own : cellAt (cellsOf row) (T .key) ≡ r .key
-  key-is-own = own-key p kn R after after-laid T there r new-there refl
+  key-is-own = own-key p R after after-laid T there r new-there refl kn
 
   pub added-facts : (name : Text) → textBytes name ≡ T .name → Packed name → (key : D.Value) → meaning key ≡ cellAt (cellsOf row) (T .key) → Proper key → RowFacts p R T r name (row .count) key
   added-facts name en hn key ek hk =
@@ -236,7 +236,7 @@ module _ (p : Profile) (R : ℕ) (s₀ : List ℕ) (b : LaidStore p R s₀) (t :
   pub added-column : (n : List ℕ) (column : ℕ) → n ≡ T .name → column ≡ T .key → KeyColumn p R s₀ n column
   added-column n column en ec =
       record {
-        inside = omega (arith, ec, own-key-below p kn R after after-laid T there r new-there refl, few-columns p R after after-laid T there);
+        inside = omega (arith, ec, own-key-below p R after after-laid T there r new-there refl, few-columns p R after after-laid T there);
         is = λ x e. ec ∙ ap (λ (y : Table). y .key) (only x e);
       }
     where
@@ -280,7 +280,7 @@ module _ (p : Profile) (R : ℕ) (s₀ : List ℕ) (b : LaidStore p R s₀) (t :
 
   pub added-start : Adds p R (parse p R s₀) final r (T .columns) 0 s₀
   added-start =
-      let ec : columnsOf ts (T .name) ≡ T .columns = own-columns p kn R after after-laid T there r new-there refl in
+      let ec : columnsOf ts (T .name) ≡ T .columns = own-columns p R after after-laid T there r new-there refl in
       let o = held-state p R s₀ b .rows-sorted in
       let e = held-entries p R s₀ b in
       record {
@@ -333,8 +333,8 @@ module _ (p : Profile) (R : ℕ) (s₀ : List ℕ) (b : LaidStore p R s₀) (t :
 
       record-is : (n : List ℕ) (y : List ℕ) → n ≡ T .name → y ≡ rowBytes n (cellsOf row) ++ drop (25 + row .count * 26) (take (from + i * w + w - (from + i * w)) (drop (from + i * w) s₁)) → y ≡ rowRecord p r
       record-is n y en ey =
-          let g = own-good p kn R after after-laid T there r new-there refl in
-          let c : length (cellsOf row) ≡ row .count = own-full p kn R after after-laid T there r new-there refl ∙ sym added-full in
+          let g = own-good p R after after-laid T there r new-there refl in
+          let c : length (cellsOf row) ≡ row .count = own-full p R after after-laid T there r new-there refl ∙ sym added-full in
           let z : _≡_ {A = List ℕ} (drop (25 + row .count * 26) (replicate w 0)) (replicate (p .columns * p .cell - length (cellsOf row) * 26) 0) =
           drop-zeros (25 + row .count * 26) w
           ∙ ap {B = List ℕ} (λ (m : ℕ). replicate (m - (25 + row .count * 26)) 0) (ew ∙ row-width p)
@@ -350,7 +350,7 @@ module _ (p : Profile) (R : ℕ) (s₀ : List ℕ) (b : LaidStore p R s₀) (t :
       unfolding image apply
       added-done n y en ey =
           let ry : y ≡ rowRecord p r = record-is n y en ey in
-          let ly : length y ≡ w = ap length ry ∙ row-long p (kn .cell) r (own-good p kn R after after-laid T there r new-there refl) ∙ sym ew in
+          let ly : length y ≡ w = ap length ry ∙ row-long p (kn .cell) r (own-good p R after after-laid T there r new-there refl) ∙ sym ew in
           let o = held-state p R s₀ b .rows-sorted in
           mid-back (from + i * w) (from + i * w + w) s₁ y (omega arith)
           ∙ laid-replaced p R s₁ opened opened-laid Rows from w R ef ew refl i y ly among .whole

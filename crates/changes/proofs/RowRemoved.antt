@@ -159,7 +159,7 @@ module _ {p : Profile} {R : ℕ} {s₀ : List ℕ} {t i : ℕ} (b : LaidStore p 
   stood = row-in p R s₀ b i (o .stored)
 
   columns-are : columnsOf ((parse p R s₀) .tables) ((rowIn p R s₀ i) .table) ≡ (tableIn p R s₀ t) .columns
-  columns-are = own-columns p (b .coded .known) R (parse p R s₀) (held-state p R s₀ b) (tableIn p R s₀ t) there (rowIn p R s₀ i) stood (o .of)
+  columns-are = own-columns p R (parse p R s₀) (held-state p R s₀ b) (tableIn p R s₀ t) there (rowIn p R s₀ i) stood (o .of)
 
   module _ {name : Text} {column : ℕ} (x : Begun p R s₀ t name column) where
     -- the key column is one of the row's
@@ -170,8 +170,8 @@ module _ {p : Profile} {R : ℕ} {s₀ : List ℕ} {t i : ℕ} (b : LaidStore p 
       omega (
         arith,
         x .key,
-        own-full p (b .coded .known) R (parse p R s₀) (held-state p R s₀ b) (tableIn p R s₀ t) there (rowIn p R s₀ i) stood (o .of),
-        own-key-below p (b .coded .known) R (parse p R s₀) (held-state p R s₀ b) (tableIn p R s₀ t) there (rowIn p R s₀ i) stood (o .of),
+        own-full p R (parse p R s₀) (held-state p R s₀ b) (tableIn p R s₀ t) there (rowIn p R s₀ i) stood (o .of),
+        own-key-below p R (parse p R s₀) (held-state p R s₀ b) (tableIn p R s₀ t) there (rowIn p R s₀ i) stood (o .of),
       ),
     )
 

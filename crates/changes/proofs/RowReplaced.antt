@@ -230,10 +230,10 @@ module _ (p : Profile) (R : ℕ) (s₀ : List ℕ) (b : LaidStore p R s₀) (t i
   unfolding cellsOf
   coming-full =
       sym (length-map (take (row .count) (row .cells)) held ∙ length-take-le (row .count) (row .cells) (pr .few))
-      ∙ own-full p kn R later later-laid T there coming came refl
+      ∙ own-full p R later later-laid T there coming came refl
 
   coming-key-below : T .key < row .count
-  coming-key-below = omega (arith, coming-full, own-key-below p kn R later later-laid T there coming came refl)
+  coming-key-below = omega (arith, coming-full, own-key-below p R later later-laid T there coming came refl)
 
   keys-agree : normalised (before .key) ≡ coming .key
   keys-agree = same-exact (before .key) (keyOf T (cellsOf row)) (a .same)
@@ -242,13 +242,13 @@ module _ (p : Profile) (R : ℕ) (s₀ : List ℕ) (b : LaidStore p R s₀) (t i
   one-place-both = row-of before coming (a .row .of) (keys-agree ∙ sym (normalised-twice (keyOf T (cellsOf row))))
 
   same-key : before .key ≡ coming .key
-  same-key = sym (canonical-normal (before .key) (own-key-good p kn R (parse p R s₀) (held-state p R s₀ b) T there before stood (a .row .of))) ∙ keys-agree
+  same-key = sym (canonical-normal (before .key) (own-key-good p R (parse p R s₀) (held-state p R s₀ b) T there before stood (a .row .of))) ∙ keys-agree
 
   columns-are : columnsOf ((parse p R s₀) .tables) (before .table) ≡ T .columns
-  columns-are = own-columns p kn R (parse p R s₀) (held-state p R s₀ b) T there before stood (a .row .of)
+  columns-are = own-columns p R (parse p R s₀) (held-state p R s₀ b) T there before stood (a .row .of)
 
   coming-good : GoodRow p coming
-  coming-good = own-good p kn R later later-laid T there coming came refl
+  coming-good = own-good p R later later-laid T there coming came refl
 
   module _ (name : Text) (en : textBytes name ≡ T .name) (hn : Packed name) (key : D.Value) (ek : meaning key ≡ cellAt (cellsOf row) (T .key)) (hk : Proper key) where
     new-facts : RowFacts p R T coming name (row .count) key
@@ -257,7 +257,7 @@ module _ (p : Profile) (R : ℕ) (s₀ : List ℕ) (b : LaidStore p R s₀) (t i
     old-facts : RowFacts p R T before name (row .count) key
     old-facts =
         row-facts p (b .coded) R (b .places) (parse p R s₀) (held-state p R s₀ b) T there before stood (a .row .of) name en hn (row .count) coming-full key
-        (ek ∙ own-key p kn R later later-laid T there coming came refl ∙ sym same-key ∙ sym (own-key p kn R (parse p R s₀) (held-state p R s₀ b) T there before stood (a .row .of))) hk
+        (ek ∙ own-key p R later later-laid T there coming came refl kn ∙ sym same-key ∙ sym (own-key p R (parse p R s₀) (held-state p R s₀ b) T there before stood (a .row .of) kn)) hk
 
     replaced-start : ReplaceTurn p R s₀ t i row name key 0 s₀
     replaced-start =
@@ -282,7 +282,7 @@ module _ (p : Profile) (R : ℕ) (s₀ : List ℕ) (b : LaidStore p R s₀) (t i
         swap-part p (b .coded) R (b .places) (parse p R s₀) (held-state p R s₀ b .rows-sorted) before coming i (row-at p R s₀ b i (a .row .stored)) one-place-both (T .columns) columns-are j s x (omega (arith, coming-full)) from w ef ew
 
     before-good : GoodRow p before
-    before-good = own-good p kn R (parse p R s₀) (held-state p R s₀ b) T there before stood (a .row .of)
+    before-good = own-good p R (parse p R s₀) (held-state p R s₀ b) T there before stood (a .row .of)
 
     replaced-part : length (take (from + i * w + w - (from + i * w)) (drop (from + i * w) s)) ≡ rowWidth p
     replaced-part = ap length part-was ∙ row-long p (kn .cell) before before-good
@@ -293,8 +293,8 @@ module _ (p : Profile) (R : ℕ) (s₀ : List ℕ) (b : LaidStore p R s₀) (t i
     replaced-done : (n y : List ℕ) → n ≡ T .name → y ≡ rowBytes n (cellsOf row) ++ drop (25 + row .count * 26) (take (from + i * w + w - (from + i * w)) (drop (from + i * w) s))
         → putMid (from + i * w) (from + i * w + w - (from + i * w)) s y ≡ image p R (apply (replaced before coming) (parse p R s₀))
     replaced-done n y en ey =
-        let cb : length (before .cells) ≡ row .count = own-full p kn R (parse p R s₀) (held-state p R s₀ b) T there before stood (a .row .of) ∙ sym coming-full in
-        let cc : length (cellsOf row) ≡ row .count = own-full p kn R later later-laid T there coming came refl ∙ sym coming-full in
+        let cb : length (before .cells) ≡ row .count = own-full p R (parse p R s₀) (held-state p R s₀ b) T there before stood (a .row .of) ∙ sym coming-full in
+        let cc : length (cellsOf row) ≡ row .count = own-full p R later later-laid T there coming came refl ∙ sym coming-full in
         let z : _≡_ {A = List ℕ} (drop (25 + row .count * 26) (rowRecord p before)) (replicate (p .columns * p .cell - length (cellsOf row) * 26) 0) =
         ap (λ (m : ℕ). drop (25 + m * 26) (rowRecord p before)) (sym cb)
         ∙ record-rest p (b .coded) before before-good

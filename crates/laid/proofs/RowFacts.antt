@@ -47,7 +47,7 @@ module _ (p : Profile) (R : ℕ) (s : List ℕ) (t : ℕ) (h : t < length ((pars
 
 -- ---- a row of a table
 
-module _ (p : Profile) (k : Known p) (R : ℕ) (st : State) (v : LaidState p R st) (T : Table) (there : In T (st .tables)) (r : S.Row) (m : In r (st .rows)) (of : r .table ≡ T .name) where
+module _ (p : Profile) (R : ℕ) (st : State) (v : LaidState p R st) (T : Table) (there : In T (st .tables)) (r : S.Row) (m : In r (st .rows)) (of : r .table ≡ T .name) where
   own-table : v .rows r m .table ≡ T
   own-table =
       one-place ordTable (v .rows r m .table) T (st .tables) (v .tables-sorted) (table-in p R st v r m) there
@@ -71,8 +71,8 @@ module _ (p : Profile) (k : Known p) (R : ℕ) (st : State) (v : LaidState p R s
   unfolding goodCells
   own-key-good = all-head _ _ (all-tail _ _ (v .rows r m .good))
 
-  pub own-key : cellAt (r .cells) (T .key) ≡ r .key
-  own-key =
+  pub own-key : Known p → cellAt (r .cells) (T .key) ≡ r .key
+  own-key k =
       sym (canonical-normal (cellAt (r .cells) (T .key)) (cell-canonical p (k .cell) r own-good (T .key) (omega (arith, own-full, own-key-below))))
       ∙ ap (λ (x : Table). normalised (keyOf x (r .cells))) (sym own-table)
       ∙ sym (key-is p R st v r m)
@@ -100,13 +100,13 @@ row-facts p k R most st v T there r m of name en hn count ec key ek hk =
       coded = k;
       places = most;
       good-table = v .good-tables T there;
-      good-row = own-good p (k .known) R st v T there r m of;
-      key-good = own-key-good p (k .known) R st v T there r m of;
-      full = own-full p (k .known) R st v T there r m of ∙ sym ec;
+      good-row = own-good p R st v T there r m of;
+      key-good = own-key-good p R st v T there r m of;
+      full = own-full p R st v T there r m of ∙ sym ec;
       counted = ec;
       named = en ∙ sym of;
       packed = hn;
-      keyed = ek ∙ own-key p (k .known) R st v T there r m of;
+      keyed = ek ∙ own-key p R st v T there r m of (k .known);
       proper = hk;
     }
 

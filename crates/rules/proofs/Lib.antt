@@ -26,7 +26,7 @@ pub mod Widths
 pub mod Laid
 pub mod Trip
 pub mod Room
-pub mod Small
+pub mod KeyLookup
 pub mod Shown
 pub mod Whole
 pub mod Contents

@@ -8,7 +8,7 @@ use mathlib.Core.List.{List, [], _∷_, map}
 use mathlib.Core.Option.{none, some, Option·map}
 use lib.ListN.{length, getD, drop, length-map, drop-of-length-le}
 use borrow.Author.Tests.{not-true, not-false}
-use Rattle.values.specs.Basic.{keep, maybe, onlyIf}
+use Rattle.values.specs.Basic.{maybe, onlyIf}
 use Rattle.values.specs.Value.{Value, isNull}
 use Rattle.values.specs.Cell.{readName}
 use Rattle.rules.specs.declared.profile.Profile.{Profile}
@@ -62,14 +62,14 @@ module _ (p : Profile) (ts : List Table) (row : List ℕ) where
     entered-here k t e b h =
         h ∙ sym (row-of-its p ts row k t e _ ∙ ap (everyCell (enteredCell es (readRow p ts row)) 0 (t .columns)) (row-cells p ts row k t e))
 
-  entries-many : length (entriesOf ts (readRow p ts row)) ≡ length (keep (λ (c : Column). c .index) (columnsOf ts (readName row)))
-  entries-many = entries-length ts (readRow p ts row) ∙ ap (λ (n : Name). length (keep (λ (c : Column). c .index) (columnsOf ts n))) (row-name p ts row)
+  entries-many : length (entriesOf ts (readRow p ts row)) ≡ indexedCount (columnsOf ts (readName row))
+  entries-many = entries-length ts (readRow p ts row) ∙ ap (λ (n : Name). indexedCount (columnsOf ts n)) (row-name p ts row)
 
   pub entries-nowhere : tableNamed ts (readName row) ≡ none → 0 ≡ length (entriesOf ts (readRow p ts row))
   unfolding maybe
   entries-nowhere e = sym (entries-many ∙ rw e)
 
-  pub entries-here : (t : Table) → tableNamed ts (readName row) ≡ some t → (n : ℕ) → n ≡ length (keep (λ (c : Column). c .index) (t .columns)) → n ≡ length (entriesOf ts (readRow p ts row))
+  pub entries-here : (t : Table) → tableNamed ts (readName row) ≡ some t → (n : ℕ) → n ≡ indexedCount (t .columns) → n ≡ length (entriesOf ts (readRow p ts row))
   unfolding maybe
   entries-here t e n h = sym (entries-many ∙ rw e (sym h))
 
@@ -78,9 +78,9 @@ module _ (p : Profile) (ts : List Table) (row : List ℕ) where
 module _ (p : Profile) (rec : List ℕ) where
   -- those from column i on
   unfoldable pub indexedFrom : ℕ → ℕ
-  indexedFrom i = length (keep (λ (c : Column). c .index) (drop i ((readTable p rec) .columns)))
+  indexedFrom i = indexedCount (drop i ((readTable p rec) .columns))
 
-  pub counted-start : 0 + indexedFrom 0 ≡ indexedCount (readTable p rec)
+  pub counted-start : 0 + indexedFrom 0 ≡ indexedCount ((readTable p rec) .columns)
   unfolding indexedFrom
   counted-start = omega arith
 
@@ -90,7 +90,7 @@ module _ (p : Profile) (rec : List ℕ) where
   one-counted b i h false x = rw (add-one, column-drop p rec b i (omega (arith, count-byte p rec)), x) (omega arith)
 
   pub counted-next : TableBytes p rec → (i n m : ℕ) (c : Column) → i < getD rec 26 0 → c ≡ columnAt p rec i → m ≡ cond (c .index) 1 0
-      → n + indexedFrom i ≡ indexedCount (readTable p rec) → n + m + indexedFrom (i + 1) ≡ indexedCount (readTable p rec)
+      → n + indexedFrom i ≡ indexedCount ((readTable p rec) .columns) → n + m + indexedFrom (i + 1) ≡ indexedCount ((readTable p rec) .columns)
   counted-next b i n m c h ec em k = omega (arith, em, one-counted b i h (c .index) (ap (λ (x : Column). x .index) (sym ec)), k)
 
   none-left : (i : ℕ) → getD rec 26 0 ≤ i → indexedFrom i ≡ 0
@@ -99,7 +99,7 @@ module _ (p : Profile) (rec : List ℕ) where
       let e : drop i ((readTable p rec) .columns) ≡ [] = drop-of-length-le ((readTable p rec) .columns) {i = i} (omega (arith, count-byte p rec, h)) in
       rw e
 
-  pub counted-end : (i n : ℕ) → getD rec 26 0 ≤ i → n + indexedFrom i ≡ indexedCount (readTable p rec) → n ≡ indexedCount (readTable p rec)
+  pub counted-end : (i n : ℕ) → getD rec 26 0 ≤ i → n + indexedFrom i ≡ indexedCount ((readTable p rec) .columns) → n ≡ indexedCount ((readTable p rec) .columns)
   counted-end i n h k = omega (arith, k, none-left i h)
 
 -- ---- the rows' entries, counted

@@ -16,12 +16,11 @@ ghost use mathlib.Core.Bool.{not, _&&_, cond};
 ghost use Prim.Native.Nat.{_≤_};
 ghost use lib.ListN.{length};
 ghost use Rattle.values.specs.Value.{isUndefined};
-ghost use Rattle.values.specs.Basic.{isLt, keep};
+ghost use Rattle.values.specs.Basic.{isLt};
 ghost use Rattle.values.specs.Meaning.{textBytes, Packed, meaning, Proper};
 ghost use Rattle.values.specs.Cell.{readName};
 ghost use Rattle.rules.specs.Profile.{rowWidth, entryWidth};
-ghost use Rattle.rules.specs.State as S;
-ghost use Rattle.rules.specs.Index.{cmpEntry, entriesOf};
+ghost use Rattle.rules.specs.Index.{cmpEntry, entriesOf, indexedCount};
 ghost use Rattle.rules.specs.Layout.{lists, readTable, readRow, readEntry, parse};
 ghost use Rattle.rules.specs.Sound.{every, sorted, everyCell};
 ghost use Rattle.laid.specs.Store.{Coded, Inside};
@@ -107,7 +106,7 @@ fn one(b: bool) -> usize
 // How many columns of a table are indexed.
 fn indexed_columns(rec: &[u8], p: Profile) -> usize
     requires { ⌜ TableBytes p (now rec) ⌝ }
-    ensures { λ r. ⌜ (r ≡ length (keep (λ (c : S.Column). c .index) ((readTable p (now (rec .entry))) .columns))) × (r ≤ 255) ⌝ }
+    ensures { λ r. ⌜ (r ≡ indexedCount ((readTable p (now (rec .entry))) .columns)) × (r ≤ 255) ⌝ }
 {
     let count = rec[layout::TABLE_COUNT] as usize;
     let mut n: usize = 0;

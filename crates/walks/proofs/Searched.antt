@@ -65,7 +65,7 @@ module _ (p : Profile) (R : ℕ) (s : List ℕ) (b : LaidStore p R s) (t i : ℕ
   pub cell-there : (j : ℕ) → j < length ((tableIn p R s t) .columns) → j < length ((rowIn p R s i) .cells)
   cell-there j h =
       omega
-      (arith, own-full p (b .coded .known) R (parse p R s) (held-state p R s b) (tableIn p R s t) (table-held p R s b t (o .known)) (rowIn p R s i) (row-in p R s b i (o .stored)) (o .of))
+      (arith, own-full p R (parse p R s) (held-state p R s b) (tableIn p R s t) (table-held p R s b t (o .known)) (rowIn p R s i) (row-in p R s b i (o .stored)) (o .of))
 
   -- the key column, as it is read from the table's record
   module _ (rec : List ℕ) (er : rec ≡ getD ((lists p R s) .schemas) t []) (column : ℕ) (ec : column ≡ getD rec 25 0) where
@@ -76,12 +76,13 @@ module _ (p : Profile) (R : ℕ) (s : List ℕ) (b : LaidStore p R s) (t i : ℕ
     key-there =
         cell-there column
         (omega
-        (arith, column-is, own-key-below p (b .coded .known) R (parse p R s) (held-state p R s b) (tableIn p R s t) (table-held p R s b t (o .known)) (rowIn p R s i) (row-in p R s b i (o .stored)) (o .of)))
+        (arith, column-is, own-key-below p R (parse p R s) (held-state p R s b) (tableIn p R s t) (table-held p R s b t (o .known)) (rowIn p R s i) (row-in p R s b i (o .stored)) (o .of)))
 
     pub key-held : cellAt ((rowIn p R s i) .cells) column ≡ (rowIn p R s i) .key
     key-held =
         ap (cellAt ((rowIn p R s i) .cells)) column-is
-        ∙ own-key p (b .coded .known) R (parse p R s) (held-state p R s b) (tableIn p R s t) (table-held p R s b t (o .known)) (rowIn p R s i) (row-in p R s b i (o .stored)) (o .of)
+        ∙ own-key p R (parse p R s) (held-state p R s b) (tableIn p R s t) (table-held p R s b t (o .known)) (rowIn p R s i) (row-in p R s b i (o .stored)) (o .of)
+        (b .coded .known)
 
 -- ---- the rows of a table
 

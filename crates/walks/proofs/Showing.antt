@@ -121,7 +121,7 @@ module _ (p : Profile) (R : ℕ) (s : List ℕ) (b : LaidStore p R s) (t : ℕ) 
               by-test x m false f = refl
               by-test x m true f =
                   ap (λ (w : Value). same w v)
-                  (sym (ap (cellAt (x .cells)) (k ∙ start-key p R s b t h rec er) ∙ own-key p (b .coded .known) R (parse p R s) (held-state p R s b) T (table-held p R s b t h) x m (name-is (x .table) (T .name) f)))
+                  (sym (ap (cellAt (x .cells)) (k ∙ start-key p R s b t h rec er) ∙ own-key p R (parse p R s) (held-state p R s b) T (table-held p R s b t h) x m (name-is (x .table) (T .name) f) (b .coded .known)))
 
           pub shown-other : (j ≡ getD rec nameWidth 0 → ⊥) → true ≡ shown rows T j (columnIn p R s t j) v
           shown-other d = sym (by-index false i false (ne-eqb j (T .key) (λ e. d (e ∙ sym (start-key p R s b t h rec er)))))

@@ -14,7 +14,7 @@ use Rattle.sound.proofs.index_test.indexed_columns.Statement.{statement
 use Rattle.sound.proofs.index_test.indexed_columns.Tie as tie
 
 abbrev Inv-loop : tie.InvT-loop
-Inv-loop rec p count n₀ i₀ n i = (count ≡ getD rec 26 0) × (n ≤ i) × (i ≤ count) × (n + indexedFrom p rec i ≡ indexedCount (readTable p rec))
+Inv-loop rec p count n₀ i₀ n i = (count ≡ getD rec 26 0) × (n ≤ i) × (i ≤ count) × (n + indexedFrom p rec i ≡ indexedCount ((readTable p rec) .columns))
 
 abbrev μ-loop : tie.MeasureT-loop
 μ-loop rec p count n₀ i₀ n i = count - i
