@@ -11,13 +11,14 @@ use Rattle.values.specs.Basic.{any, nth, orDefault, _orElse_}
 use Rattle.values.specs.Value.{Value, before}
 use Rattle.rules.specs.declared.profile.Profile.{Profile}
 use Rattle.rules.specs.declared.answer.Refusal.{Refusal}
-use Rattle.rules.specs.declared.answer.Refusal.the-variants.{Accepted, RecordBroken, UnknownTable, TableExists, EmptyTableName, NoColumns, KeyColumnOutOfRange, EmptyColumnName, KeyNullable, KeyNotUnique, KeyIndexed, NullableWithoutDefault, NullDefault, DefaultKind, UniqueNotIndexed, ReferenceNotIndexed, UnknownTarget, TargetKind, ColumnTwice, TablesFull, TableReferenced, TooManyValues, MapCount, NoDefault, MapColumn, RowSize, KeyUndefined, KeyExists, WrongKind, NullNotAllowed, TargetMissing, ValueExists, RowReferenced, RowsFull, RowAbsent, KeysNotRising, NotIndexed, StoreUnsound}
+use Rattle.rules.specs.declared.answer.Refusal.the-variants.{Accepted, RecordBroken, UnknownTable, TableExists, EmptyTableName, NoColumns, KeyColumnOutOfRange, EmptyColumnName, KeyNullable, KeyNotUnique, KeyIndexed, NullableWithoutDefault, NullDefault, DefaultKind, UniqueNotIndexed, ReferenceNotIndexed, UnknownTarget, TargetKind, ColumnTwice, TablesFull, TableReferenced, TooManyValues, MapCount, NoDefault, MapColumn, RowSize, KeyUndefined, KeyExists, WrongKind, NullNotAllowed, TargetMissing, ValueExists, RowReferenced, RowsFull, RowAbsent, KeysNotRising, NotIndexed, StoreUnsound, JournalFull, InsideBatch, BatchOutOfTurn}
 use Rattle.rules.specs.Refusal.{numberOf}
 use Rattle.rules.specs.State.{Name, sameName, Column, Table, Row, State}
+use Rattle.rules.specs.Journal.{Journal, Books}
 use Rattle.rules.specs.Request.{Pair}
 use Rattle.rules.specs.Schema.{first, Fault, at, columnFault, columnsFault, repeatFault, schemaFault}
 use Rattle.rules.specs.Rows.{fillFault, fillsFault, risingFault, sizeFault, cellFault, cellsFault, rowFault}
-use Rattle.rules.specs.Step.{createFault}
+use Rattle.rules.specs.Step.{journalFault, createFault}
 use Rattle.rules.specs.Sound.{every}
 use Rattle.rules.specs.Refused.{createNumbers, oneOf}
 use Rattle.rules.proofs.Tests.{every-at, and-left, and-right}
@@ -31,7 +32,8 @@ kinds =
     Accepted ∷ RecordBroken ∷ UnknownTable ∷ TableExists ∷ EmptyTableName ∷ NoColumns ∷ KeyColumnOutOfRange ∷ EmptyColumnName ∷ KeyNullable ∷ KeyNotUnique
     ∷ KeyIndexed ∷ NullableWithoutDefault ∷ NullDefault ∷ DefaultKind ∷ UniqueNotIndexed ∷ ReferenceNotIndexed ∷ UnknownTarget ∷ TargetKind ∷ ColumnTwice ∷ TablesFull
     ∷ TableReferenced ∷ TooManyValues ∷ MapCount ∷ NoDefault ∷ MapColumn ∷ RowSize ∷ KeyUndefined ∷ KeyExists ∷ WrongKind ∷ NullNotAllowed
-    ∷ TargetMissing ∷ ValueExists ∷ RowReferenced ∷ RowsFull ∷ RowAbsent ∷ KeysNotRising ∷ Accepted ∷ NotIndexed ∷ StoreUnsound ∷ []
+    ∷ TargetMissing ∷ ValueExists ∷ RowReferenced ∷ RowsFull ∷ RowAbsent ∷ KeysNotRising ∷ Accepted ∷ NotIndexed ∷ StoreUnsound ∷ Accepted
+    ∷ Accepted ∷ Accepted ∷ Accepted ∷ JournalFull ∷ InsideBatch ∷ BatchOutOfTurn ∷ []
 
 named : ℕ → Refusal
 named n = orDefault (nth kinds n) Accepted
@@ -76,6 +78,9 @@ named-number RowAbsent = refl
 named-number KeysNotRising = refl
 named-number NotIndexed = refl
 named-number StoreUnsound = refl
+named-number JournalFull = refl
+named-number InsideBatch = refl
+named-number BatchOutOfTurn = refl
 
 pub number-injective : (j k : Refusal) → numberOf j ≡ numberOf k → j ≡ k
 number-injective j k e = sym (named-number j) ∙ ap named e ∙ named-number k
@@ -207,18 +212,39 @@ cells-only rs t u key i (c ∷ cs) (v ∷ vs) =
 pub row-only : (ns : List ℕ) (a b c : Option Refusal) → every (λ n. any (eqb n) ns) cellNumbers ≡ true → Only ns a → Only cellNumbers b → Only ns c → Only ns (a orElse b orElse c)
 row-only ns a b c h f g l = either ns a (b orElse c) f (either ns b c (λ k e. more cellNumbers ns k h (g k e)) l)
 
+-- whatever it is put for
+abbrev pub rowNumbers : List ℕ
+rowNumbers = 26 ∷ 27 ∷ 28 ∷ 29 ∷ 30 ∷ 31 ∷ 33 ∷ 34 ∷ 36 ∷ []
+
+pub fault-only : (p : Profile) (R : ℕ) (s : State) (t : Table) (u : Bool) (v : List Value) → Only rowNumbers (rowFault p R s t u v)
+unfolding rowFault every
+fault-only p R s t u v = row-only rowNumbers _ _ _ refl (only-first rowNumbers _ refl) (cells-only _ _ _ _ _ _ _) (only-first rowNumbers _ refl)
+
+-- 43
+pub journal-only : (ns : List ℕ) (j : Journal) (n : ℕ) → any (eqb 43) ns ≡ true → Only ns (journalFault j n)
+unfolding journalFault every
+journal-only ns j n h = only-first ns _ (rw h)
+
+-- what refuses a row that is put: a fault of its own, or 43
+abbrev pub putFault : Profile → ℕ → Table → Books → Bool → List Value → Option Refusal
+putFault p R t b update v = rowFault p R (b .store) t update v orElse journalFault (b .journal) 1
+
 -- a row that needs a place
 abbrev pub newNumbers : List ℕ
-newNumbers = 26 ∷ 27 ∷ 28 ∷ 29 ∷ 30 ∷ 31 ∷ 33 ∷ []
+newNumbers = 26 ∷ 27 ∷ 28 ∷ 29 ∷ 30 ∷ 31 ∷ 33 ∷ 43 ∷ []
 
-pub new-only : (p : Profile) (R : ℕ) (s : State) (t : Table) (v : List Value) → Only newNumbers (rowFault p R s t false v)
+pub new-only : (p : Profile) (R : ℕ) (b : Books) (t : Table) (v : List Value) → Only newNumbers (putFault p R t b false v)
 unfolding rowFault every
-new-only p R s t v = row-only newNumbers _ _ _ refl (only-first newNumbers _ refl) (cells-only _ _ _ _ _ _ _) (only-first newNumbers _ refl)
+new-only p R b t v =
+    either newNumbers _ _ (row-only newNumbers _ _ _ refl (only-first newNumbers _ refl) (cells-only _ _ _ _ _ _ _) (only-first newNumbers _ refl))
+    (journal-only newNumbers (b .journal) 1 refl)
 
 -- and one that takes its own
 abbrev pub sameNumbers : List ℕ
-sameNumbers = 26 ∷ 28 ∷ 29 ∷ 30 ∷ 31 ∷ 34 ∷ []
+sameNumbers = 26 ∷ 28 ∷ 29 ∷ 30 ∷ 31 ∷ 34 ∷ 43 ∷ []
 
-pub same-only : (p : Profile) (R : ℕ) (s : State) (t : Table) (v : List Value) → Only sameNumbers (rowFault p R s t true v)
+pub same-only : (p : Profile) (R : ℕ) (b : Books) (t : Table) (v : List Value) → Only sameNumbers (putFault p R t b true v)
 unfolding rowFault every
-same-only p R s t v = row-only sameNumbers _ _ _ refl (only-first sameNumbers _ refl) (cells-only _ _ _ _ _ _ _) (only-first sameNumbers _ refl)
+same-only p R b t v =
+    either sameNumbers _ _ (row-only sameNumbers _ _ _ refl (only-first sameNumbers _ refl) (cells-only _ _ _ _ _ _ _) (only-first sameNumbers _ refl))
+    (journal-only sameNumbers (b .journal) 1 refl)

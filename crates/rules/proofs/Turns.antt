@@ -7,11 +7,11 @@ use mathlib.Core.Bool.{Bool, true, false, true≢false, false≢true}
 use mathlib.Core.List.{List, [], _∷_, _++_, append-assoc}
 use lib.ListN.{length}
 use Rattle.values.specs.Value.{Value}
-use Rattle.rules.specs.State.{State}
+use Rattle.rules.specs.Journal.{Books}
 use Rattle.rules.specs.Request.{Reply, ok}
-use Rattle.rules.specs.Step.{Change, applyAll, Outcome, did, isAccepted, atPlace, numbered, onward, inTurn}
+use Rattle.rules.specs.Step.{Change, applyAll, Outcome, did, isAccepted, atPlace, numbered, onward, inTurn, noteAll, changed}
 use Rattle.rules.specs.Stops.{Turn, outcomeAt, stopAt}
-use Rattle.rules.proofs.Removed.{applyAll-append}
+use Rattle.rules.proofs.Removed.{changed-append}
 use Rattle.rules.proofs.Tests.{by-cond}
 
 -- where an item was accepted or refused
@@ -40,41 +40,41 @@ is-did o n e f = parts (o .lines) (o .reply) e f
     parts : (ls : List (List Value)) (r : Reply) → ls ≡ [] → r ≡ ok n → _≡_ {A = Outcome} (record { changes = o .changes; lines = ls; reply = r }) (did (o .changes) n)
     parts ls r e f = rw (e, f)
 
-module _ {A : Type 0} (f : State → A → Outcome) where
-  pub in-turn-nil : (s : State) (i : ℕ) → inTurn f s i [] ≡ did [] i
+module _ {A : Type 0} (f : Books → A → Outcome) where
+  pub in-turn-nil : (s : Books) (i : ℕ) → inTurn f s i [] ≡ did [] i
   unfolding inTurn
   in-turn-nil s i = refl
 
-  pub in-turn-cons : (s : State) (i : ℕ) (x : A) (xs : List A) → inTurn f s i (x ∷ xs) ≡ onward (f s x) i (λ cs. inTurn f (applyAll cs s) (suc i) xs)
+  pub in-turn-cons : (s : Books) (i : ℕ) (x : A) (xs : List A) → inTurn f s i (x ∷ xs) ≡ onward (f s x) i (λ cs. inTurn f (changed cs s) (suc i) xs)
   unfolding inTurn
   in-turn-cons s i x xs = refl
 
   -- one item more at the front
-  pub in-turn-yes : (s : State) (i : ℕ) (x : A) (xs : List A) → isAccepted ((f s x) .reply) ≡ true
+  pub in-turn-yes : (s : Books) (i : ℕ) (x : A) (xs : List A) → isAccepted ((f s x) .reply) ≡ true
       → inTurn f s i (x ∷ xs)
       ≡ record {
-        changes = (f s x) .changes ++ (inTurn f (applyAll ((f s x) .changes) s) (suc i) xs) .changes;
+        changes = (f s x) .changes ++ (inTurn f (changed ((f s x) .changes) s) (suc i) xs) .changes;
         lines = [];
-        reply = (inTurn f (applyAll ((f s x) .changes) s) (suc i) xs) .reply;
+        reply = (inTurn f (changed ((f s x) .changes) s) (suc i) xs) .reply;
       }
-  in-turn-yes s i x xs h = in-turn-cons s i x xs ∙ onward-yes (f s x) i (λ cs. inTurn f (applyAll cs s) (suc i) xs) h
+  in-turn-yes s i x xs h = in-turn-cons s i x xs ∙ onward-yes (f s x) i (λ cs. inTurn f (changed cs s) (suc i) xs) h
 
-  pub in-turn-no : (s : State) (i : ℕ) (x : A) (xs : List A) → isAccepted ((f s x) .reply) ≡ false
+  pub in-turn-no : (s : Books) (i : ℕ) (x : A) (xs : List A) → isAccepted ((f s x) .reply) ≡ false
       → inTurn f s i (x ∷ xs) ≡ record { changes = (f s x) .changes; lines = []; reply = atPlace i ((f s x) .reply) }
-  in-turn-no s i x xs h = in-turn-cons s i x xs ∙ onward-no (f s x) i (λ cs. inTurn f (applyAll cs s) (suc i) xs) h
+  in-turn-no s i x xs h = in-turn-cons s i x xs ∙ onward-no (f s x) i (λ cs. inTurn f (changed cs s) (suc i) xs) h
 
-  pub in-turn-did : (s : State) (i : ℕ) (x : A) (xs : List A) (cs : List Change) (n : ℕ) → f s x ≡ did cs n
+  pub in-turn-did : (s : Books) (i : ℕ) (x : A) (xs : List A) (cs : List Change) (n : ℕ) → f s x ≡ did cs n
       → inTurn f s i (x ∷ xs)
-      ≡ record { changes = cs ++ (inTurn f (applyAll cs s) (suc i) xs) .changes; lines = []; reply = (inTurn f (applyAll cs s) (suc i) xs) .reply }
+      ≡ record { changes = cs ++ (inTurn f (changed cs s) (suc i) xs) .changes; lines = []; reply = (inTurn f (changed cs s) (suc i) xs) .reply }
   in-turn-did s i x xs cs n e =
       in-turn-yes s i x xs (ap (λ (o : Outcome). isAccepted (o .reply)) e)
       ∙ ap (λ (o : Outcome). record {
-        changes = o .changes ++ (inTurn f (applyAll (o .changes) s) (suc i) xs) .changes;
+        changes = o .changes ++ (inTurn f (changed (o .changes) s) (suc i) xs) .changes;
         lines = [];
-        reply = (inTurn f (applyAll (o .changes) s) (suc i) xs) .reply;
+        reply = (inTurn f (changed (o .changes) s) (suc i) xs) .reply;
       }) e
 
-  pub lines-none : (s : State) (i : ℕ) (xs : List A) → (inTurn f s i xs) .lines ≡ []
+  pub lines-none : (s : Books) (i : ℕ) (xs : List A) → (inTurn f s i xs) .lines ≡ []
   lines-none s i [] = ap (λ (o : Outcome). o .lines) (in-turn-nil s i)
   lines-none s i (x ∷ xs) = go (isAccepted ((f s x) .reply)) refl
     where
@@ -83,41 +83,41 @@ module _ {A : Type 0} (f : State → A → Outcome) where
       go false e = ap (λ (o : Outcome). o .lines) (in-turn-no s i x xs e)
 
   -- all were accepted: N counts them
-  pub all-counted : (s : State) (i : ℕ) (xs : List A) → isAccepted ((inTurn f s i xs) .reply) ≡ true → (inTurn f s i xs) .reply ≡ ok (i + length xs)
+  pub all-counted : (s : Books) (i : ℕ) (xs : List A) → isAccepted ((inTurn f s i xs) .reply) ≡ true → (inTurn f s i xs) .reply ≡ ok (i + length xs)
   all-counted s i [] h = ap (λ (o : Outcome). o .reply) (in-turn-nil s i) ∙ ap ok (sym (add-zero i))
   all-counted s i (x ∷ xs) h = go (isAccepted ((f s x) .reply)) refl (λ t. all-counted t (suc i) xs)
     where
       go : (b : Bool) → isAccepted ((f s x) .reply) ≡ b
-          → ((t : State) → isAccepted ((inTurn f t (suc i) xs) .reply) ≡ true → (inTurn f t (suc i) xs) .reply ≡ ok (suc i + length xs))
+          → ((t : Books) → isAccepted ((inTurn f t (suc i) xs) .reply) ≡ true → (inTurn f t (suc i) xs) .reply ≡ ok (suc i + length xs))
           → (inTurn f s i (x ∷ xs)) .reply ≡ ok (i + suc (length xs))
       go false e r = absurd (false≢true (sym (ap (λ (o : Outcome). isAccepted (o .reply)) (in-turn-no s i x xs e) ∙ e) ∙ h))
       go true e r =
           let q = in-turn-yes s i x xs e in
-          ap (λ (o : Outcome). o .reply) q ∙ r (applyAll ((f s x) .changes) s) (sym (ap (λ (o : Outcome). isAccepted (o .reply)) q) ∙ h) ∙ ap ok (omega arith)
+          ap (λ (o : Outcome). o .reply) q ∙ r (changed ((f s x) .changes) s) (sym (ap (λ (o : Outcome). isAccepted (o .reply)) q) ∙ h) ∙ ap ok (omega arith)
 
-  pub all-through : (s : State) (i : ℕ) (xs : List A) → isAccepted ((inTurn f s i xs) .reply) ≡ true → inTurn f s i xs ≡ did ((inTurn f s i xs) .changes) (i + length xs)
+  pub all-through : (s : Books) (i : ℕ) (xs : List A) → isAccepted ((inTurn f s i xs) .reply) ≡ true → inTurn f s i xs ≡ did ((inTurn f s i xs) .changes) (i + length xs)
   all-through s i xs h = is-did (inTurn f s i xs) (i + length xs) (lines-none s i xs) (all-counted s i xs h)
 
   -- the changes of an item before those of the others
-  behind-one : (s : State) (i : ℕ) (cs ds : List Change) (x : A) (n : ℕ)
+  behind-one : (s : Books) (i : ℕ) (cs ds : List Change) (x : A) (n : ℕ)
       → _≡_ {A = Outcome}
       (record {
-        changes = cs ++ (ds ++ (f (applyAll ds (applyAll cs s)) x) .changes);
+        changes = cs ++ (ds ++ (f (changed ds (changed cs s)) x) .changes);
         lines = [];
-        reply = atPlace (suc i + n) ((f (applyAll ds (applyAll cs s)) x) .reply);
+        reply = atPlace (suc i + n) ((f (changed ds (changed cs s)) x) .reply);
       })
-      (record { changes = (cs ++ ds) ++ (f (applyAll (cs ++ ds) s) x) .changes; lines = []; reply = atPlace (i + suc n) ((f (applyAll (cs ++ ds) s) x) .reply) })
-  behind-one s i cs ds x n = let m : i + suc n ≡ suc i + n = omega arith in rw (m, applyAll-append cs ds s, append-assoc cs ds)
+      (record { changes = (cs ++ ds) ++ (f (changed (cs ++ ds) s) x) .changes; lines = []; reply = atPlace (i + suc n) ((f (changed (cs ++ ds) s) x) .reply) })
+  behind-one s i cs ds x n = let m : i + suc n ≡ suc i + n = omega arith in rw (m, changed-append cs ds s, append-assoc cs ds)
 
   -- one was refused: the items before it were accepted, and their changes stay
-  pub stopped : (s : State) (i : ℕ) (xs : List A) → isAccepted ((inTurn f s i xs) .reply) ≡ false
+  pub stopped : (s : Books) (i : ℕ) (xs : List A) → isAccepted ((inTurn f s i xs) .reply) ≡ false
       → (t : Turn f s i xs) × (isAccepted ((outcomeAt f t) .reply) ≡ false) × (inTurn f s i xs ≡ stopAt f t)
-  unfolding applyAll
+  unfolding applyAll noteAll
   stopped s i [] h = absurd (true≢false (sym (ap (λ (o : Outcome). isAccepted (o .reply)) (in-turn-nil s i)) ∙ h))
   stopped s i (x ∷ xs) h = go (isAccepted ((f s x) .reply)) refl (λ t. stopped t (suc i) xs)
     where
       go : (b : Bool) → isAccepted ((f s x) .reply) ≡ b
-          → ((u : State) → isAccepted ((inTurn f u (suc i) xs) .reply) ≡ false → (t : Turn f u (suc i) xs) × (isAccepted ((outcomeAt f t) .reply) ≡ false) × (inTurn f u (suc i) xs ≡ stopAt f t))
+          → ((u : Books) → isAccepted ((inTurn f u (suc i) xs) .reply) ≡ false → (t : Turn f u (suc i) xs) × (isAccepted ((outcomeAt f t) .reply) ≡ false) × (inTurn f u (suc i) xs ≡ stopAt f t))
           → (t : Turn f s i (x ∷ xs)) × (isAccepted ((outcomeAt f t) .reply) ≡ false) × (inTurn f s i (x ∷ xs) ≡ stopAt f t)
       go false e r = (
         record { before = []; item = x; behind = xs; earlier = []; split = refl; through = in-turn-nil s i ∙ ap (did []) (sym (add-zero i)) },
@@ -127,7 +127,7 @@ module _ {A : Type 0} (f : State → A → Outcome) where
       )
       go true e r =
           let cs : List Change = (f s x) .changes in
-          let u : State = applyAll cs s in
+          let u : Books = changed cs s in
           let q = r u (sym (ap (λ (o : Outcome). isAccepted (o .reply)) (in-turn-yes s i x xs e)) ∙ h) in
           let t : Turn f u (suc i) xs = q .0 in
           let n : suc i + length (t .before) ≡ i + suc (length (t .before)) = omega arith in (
@@ -142,28 +142,28 @@ module _ {A : Type 0} (f : State → A → Outcome) where
                   ∙ ap (λ (o : Outcome). record { changes = cs ++ o .changes; lines = []; reply = o .reply }) (t .through)
                   ∙ ap (did (cs ++ t .earlier)) n;
             },
-            subst (λ (v : State). isAccepted ((f v (t .item)) .reply) ≡ false) (sym (applyAll-append cs (t .earlier) s)) (q .1),
+            subst (λ (v : Books). isAccepted ((f v (t .item)) .reply) ≡ false) (sym (changed-append cs (t .earlier) s)) (q .1),
             in-turn-yes s i x xs e
                 ∙ ap (λ (o : Outcome). record { changes = cs ++ o .changes; lines = []; reply = o .reply }) (q .2)
                 ∙ behind-one s i cs (t .earlier) (t .item) (length (t .before)),
           )
 
   -- and where an item is refused, this is what is answered
-  stops-from : (before : List A) (item : A) (behind : List A) (s : State) (i : ℕ) (earlier : List Change) → inTurn f s i before ≡ did earlier (i + length before)
-      → isAccepted ((f (applyAll earlier s) item) .reply) ≡ false
+  stops-from : (before : List A) (item : A) (behind : List A) (s : Books) (i : ℕ) (earlier : List Change) → inTurn f s i before ≡ did earlier (i + length before)
+      → isAccepted ((f (changed earlier s) item) .reply) ≡ false
       → inTurn f s i (before ++ (item ∷ behind))
       ≡ record {
-        changes = earlier ++ (f (applyAll earlier s) item) .changes;
+        changes = earlier ++ (f (changed earlier s) item) .changes;
         lines = [];
-        reply = atPlace (i + length before) ((f (applyAll earlier s) item) .reply);
+        reply = atPlace (i + length before) ((f (changed earlier s) item) .reply);
       }
-  unfolding applyAll
+  unfolding applyAll noteAll
   stops-from [] item behind s i earlier t h = subst At-once (ap (λ (o : Outcome). o .changes) (sym (in-turn-nil s i) ∙ t)) first h
     where
       At-once : List Change → Type 0
-      At-once cs = isAccepted ((f (applyAll cs s) item) .reply) ≡ false
+      At-once cs = isAccepted ((f (changed cs s) item) .reply) ≡ false
           → inTurn f s i (item ∷ behind)
-          ≡ record { changes = cs ++ (f (applyAll cs s) item) .changes; lines = []; reply = atPlace (i + 0) ((f (applyAll cs s) item) .reply) }
+          ≡ record { changes = cs ++ (f (changed cs s) item) .changes; lines = []; reply = atPlace (i + 0) ((f (changed cs s) item) .reply) }
 
       first : At-once []
       first k =
@@ -174,8 +174,8 @@ module _ {A : Type 0} (f : State → A → Outcome) where
       cs : List Change
       cs = (f s x) .changes
 
-      u : State
-      u = applyAll cs s
+      u : Books
+      u = changed cs s
 
       ds : List Change
       ds = (inTurn f u (suc i) before) .changes
@@ -184,19 +184,19 @@ module _ {A : Type 0} (f : State → A → Outcome) where
       Stops es =
           inTurn f s i (x ∷ (before ++ (item ∷ behind)))
           ≡ record {
-            changes = es ++ (f (applyAll es s) item) .changes;
+            changes = es ++ (f (changed es s) item) .changes;
             lines = [];
-            reply = atPlace (i + suc (length before)) ((f (applyAll es s) item) .reply);
+            reply = atPlace (i + suc (length before)) ((f (changed es s) item) .reply);
           }
 
       go : (b : Bool) → isAccepted ((f s x) .reply) ≡ b
-          → ((s : State) (i : ℕ) (earlier : List Change) → inTurn f s i before ≡ did earlier (i + length before)
-          → isAccepted ((f (applyAll earlier s) item) .reply) ≡ false
+          → ((s : Books) (i : ℕ) (earlier : List Change) → inTurn f s i before ≡ did earlier (i + length before)
+          → isAccepted ((f (changed earlier s) item) .reply) ≡ false
           → inTurn f s i (before ++ (item ∷ behind))
           ≡ record {
-            changes = earlier ++ (f (applyAll earlier s) item) .changes;
+            changes = earlier ++ (f (changed earlier s) item) .changes;
             lines = [];
-            reply = atPlace (i + length before) ((f (applyAll earlier s) item) .reply);
+            reply = atPlace (i + length before) ((f (changed earlier s) item) .reply);
           })
           → Stops earlier
       go false e r = absurd (true≢false (sym (ap (λ (o : Outcome). isAccepted (o .reply)) t) ∙ ap (λ (o : Outcome). isAccepted (o .reply)) (in-turn-no s i x before e) ∙ e))
@@ -204,13 +204,13 @@ module _ {A : Type 0} (f : State → A → Outcome) where
           let q = sym (in-turn-yes s i x before e) ∙ t in
           let k : earlier ≡ cs ++ ds = sym (ap (λ (o : Outcome). o .changes) q) in
           let yes : isAccepted ((inTurn f u (suc i) before) .reply) ≡ true = ap (λ (o : Outcome). isAccepted (o .reply)) q in
-          let h′ : isAccepted ((f (applyAll ds u) item) .reply) ≡ false =
-          subst (λ (v : State). isAccepted ((f v item) .reply) ≡ false) (ap (λ (l : List Change). applyAll l s) k ∙ applyAll-append cs ds s) h
+          let h′ : isAccepted ((f (changed ds u) item) .reply) ≡ false =
+          subst (λ (v : Books). isAccepted ((f v item) .reply) ≡ false) (ap (λ (l : List Change). changed l s) k ∙ changed-append cs ds s) h
           in
           subst Stops (sym k)
           (in-turn-yes s i x (before ++ (item ∷ behind)) e
           ∙ ap (λ (o : Outcome). record { changes = cs ++ o .changes; lines = []; reply = o .reply }) (r u (suc i) ds (all-through u (suc i) before yes) h′)
           ∙ behind-one s i cs ds item (length before))
 
-  pub stops : {s : State} {i : ℕ} {xs : List A} (t : Turn f s i xs) → isAccepted ((outcomeAt f t) .reply) ≡ false → inTurn f s i xs ≡ stopAt f t
+  pub stops : {s : Books} {i : ℕ} {xs : List A} (t : Turn f s i xs) → isAccepted ((outcomeAt f t) .reply) ≡ false → inTurn f s i xs ≡ stopAt f t
   stops {s} {i} {xs} t h = ap (inTurn f s i) (t .split) ∙ stops-from (t .before) (t .item) (t .behind) s i (t .earlier) (t .through) h

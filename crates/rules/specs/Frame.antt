@@ -5,7 +5,8 @@ use mathlib.Core.Option.{Option, none, some}
 use Rattle.values.specs.Basic.{keep}
 use Rattle.rules.specs.State.{Name, sameName, State, tableNamed, rowsOf}
 use Rattle.rules.specs.Index.{Entry, indexOf}
-use Rattle.rules.specs.Request.{Request, Create, Drop, Insert, Update, Delete, Get, Lookup, Scan, Names}
+use Rattle.rules.specs.Request.{Request, Create, Drop, Insert, Update, Delete, Get, Lookup, Scan, Names, Open, Keep, Back}
+use mathlib.Core.Bool.{Bool, true, false}
 
 -- a list names none
 abbrev pub names : Request → Option Name
@@ -18,6 +19,9 @@ names (Get n ks) = some n
 names (Lookup n i vs) = some n
 names (Scan n) = some n
 names Names = none
+names Open = none
+names Keep = none
+names Back = none
 
 -- the index entries of a table
 abbrev pub entriesNamed : State → Name → List Entry
@@ -28,3 +32,18 @@ pub record Untouched (n : Name) (s z : State) : Type 0 where
   pub schema : tableNamed (z .tables) n ≡ tableNamed (s .tables) n
   pub rows : rowsOf (z .rows) n ≡ rowsOf (s .rows) n
   pub entries : entriesNamed z n ≡ entriesNamed s n
+
+-- a taking back changes what it does not name
+abbrev pub takesBack : Request → Bool
+takesBack Back = true
+takesBack (Create t) = false
+takesBack (Drop n ifExists) = false
+takesBack (Insert n m rows) = false
+takesBack (Update n qs) = false
+takesBack (Delete n ks) = false
+takesBack (Get n ks) = false
+takesBack (Lookup n i vs) = false
+takesBack (Scan n) = false
+takesBack Names = false
+takesBack Open = false
+takesBack Keep = false

@@ -1,5 +1,6 @@
 pub mod Profile
 pub mod State
+pub mod Journal
 pub mod Index
 pub mod Layout
 pub mod Refusal
@@ -8,6 +9,7 @@ pub mod Schema
 pub mod Rows
 pub mod Step
 pub mod Sound
+pub mod Pages
 pub mod Readable
 pub mod Frame
 pub mod Demand

@@ -1,7 +1,7 @@
 -- The kinds of refusal and document 01's number of each ("Numbers of refusal"). Assumes nothing.
 use Prim.Native.Nat.{ℕ}
 use Rattle.rules.specs.declared.answer.Refusal.{Refusal}
-use Rattle.rules.specs.declared.answer.Refusal.the-variants.{Accepted, RecordBroken, UnknownTable, TableExists, EmptyTableName, NoColumns, KeyColumnOutOfRange, EmptyColumnName, KeyNullable, KeyNotUnique, KeyIndexed, NullableWithoutDefault, NullDefault, DefaultKind, UniqueNotIndexed, ReferenceNotIndexed, UnknownTarget, TargetKind, ColumnTwice, TablesFull, TableReferenced, TooManyValues, MapCount, NoDefault, MapColumn, RowSize, KeyUndefined, KeyExists, WrongKind, NullNotAllowed, TargetMissing, ValueExists, RowReferenced, RowsFull, RowAbsent, KeysNotRising, NotIndexed, StoreUnsound}
+use Rattle.rules.specs.declared.answer.Refusal.the-variants.{Accepted, RecordBroken, UnknownTable, TableExists, EmptyTableName, NoColumns, KeyColumnOutOfRange, EmptyColumnName, KeyNullable, KeyNotUnique, KeyIndexed, NullableWithoutDefault, NullDefault, DefaultKind, UniqueNotIndexed, ReferenceNotIndexed, UnknownTarget, TargetKind, ColumnTwice, TablesFull, TableReferenced, TooManyValues, MapCount, NoDefault, MapColumn, RowSize, KeyUndefined, KeyExists, WrongKind, NullNotAllowed, TargetMissing, ValueExists, RowReferenced, RowsFull, RowAbsent, KeysNotRising, NotIndexed, StoreUnsound, JournalFull, InsideBatch, BatchOutOfTurn}
 
 abbrev pub numberOf : Refusal → ℕ
 numberOf Accepted = 0
@@ -42,3 +42,6 @@ numberOf RowAbsent = 34
 numberOf KeysNotRising = 35
 numberOf NotIndexed = 37
 numberOf StoreUnsound = 38
+numberOf JournalFull = 43
+numberOf InsideBatch = 44
+numberOf BatchOutOfTurn = 45

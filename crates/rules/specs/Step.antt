@@ -3,16 +3,18 @@
 use Prim.Native.Nat.{ℕ, suc}
 use mathlib.Core.Bool.{Bool, true, false, not, _&&_, cond}
 use mathlib.Core.List.{List, [], _∷_, _++_, map}
-use mathlib.Core.Option.{Option, Option·map}
+use mathlib.Core.Option.{Option, none, some, Option·map}
 use lib.Dec.{eqb, leb, isEq}
 use lib.ListN.{length}
 use Rattle.values.specs.Basic.{isNil, keep, nth, isSome, _orElse_, orDefault, insertBy, maybe}
 use Rattle.values.specs.Value.{Value, text, same, among}
 use Rattle.rules.specs.declared.profile.Profile.{Profile}
-use Rattle.rules.specs.declared.answer.Refusal.the-variants.{UnknownTable, TableExists, TablesFull, TableReferenced, MapColumn, RowReferenced, NotIndexed}
+use Rattle.rules.specs.declared.answer.Refusal.{Refusal}
+use Rattle.rules.specs.declared.answer.Refusal.the-variants.{JournalFull, InsideBatch, BatchOutOfTurn, UnknownTable, TableExists, TablesFull, TableReferenced, MapColumn, RowReferenced, NotIndexed}
 use Rattle.rules.specs.Refusal.{numberOf}
+use Rattle.rules.specs.Journal.{Event, absent, stood, unwound, Journal, batchOf, isOpen, lacks, Books}
 use Rattle.rules.specs.State.{Name, Column, Table, Row, State, cmpTable, cmpRow, isNamed, tableNamed, ofTable, rowWith, rowsOf, cellAt, keyOf, rowOf}
-use Rattle.rules.specs.Request.{Pair, Request, Create, Drop, Insert, Update, Delete, Get, Lookup, Scan, Names, entered, Reply, ok, no, noCarrying, withGone}
+use Rattle.rules.specs.Request.{Pair, Request, Create, Drop, Insert, Update, Delete, Get, Lookup, Scan, Names, Open, Keep, Back, entered, Reply, ok, no, noCarrying, withGone}
 use Rattle.rules.specs.Schema.{first, Fault, at, schemaFault}
 use Rattle.rules.specs.Rows.{badMap, fillsFault, fullRow, risingFault, sizeFault, rowFault, tableReferenced, rowReferenced}
 
@@ -22,6 +24,9 @@ pub data Change : Type 0 where
   created dropped : Table → Change
   added removed : Row → Change
   replaced : Row → Row → Change
+  -- of a batch: opened, kept, and taken back to rows as they were
+  opened kept : Change
+  takenBack : List Row → Change
 
 abbrev pub withRow : Row → List Row → List Row
 withRow r rs = insertBy cmpRow r rs
@@ -35,10 +40,44 @@ apply (dropped t) s = record { tables = keep (λ x. not (isNamed (t .name) x)) (
 apply (added r) s = record { tables = s .tables; rows = withRow r (s .rows) }
 apply (removed r) s = record { tables = s .tables; rows = withoutRow r (s .rows) }
 apply (replaced old new) s = record { tables = s .tables; rows = withRow new (s .rows) }
+apply opened s = s
+apply kept s = s
+apply (takenBack rs) s = record { tables = s .tables; rows = rs }
 
 unfoldable pub applyAll : List Change → State → State
 applyAll [] s = s
 applyAll (c ∷ cs) s = applyAll cs (apply c s)
+
+-- ---- the journal: while a batch is open, each row added, replaced or removed uses a place
+
+-- what stood at the key before the change
+abbrev pub noted : Change → List Event
+noted (created t) = []
+noted (dropped t) = []
+noted (added r) = absent (r .table) (r .key) ∷ []
+noted (removed r) = stood r ∷ []
+noted (replaced old new) = stood old ∷ []
+noted opened = []
+noted kept = []
+noted (takenBack rs) = []
+
+unfoldable pub note : Change → Journal → Journal
+note (created t) j = j
+note (dropped t) j = j
+note (added r) j = batchOf (j .places) (Option·map (λ (es : List Event). es ++ noted (added r)) (j .batch))
+note (removed r) j = batchOf (j .places) (Option·map (λ (es : List Event). es ++ noted (removed r)) (j .batch))
+note (replaced old new) j = batchOf (j .places) (Option·map (λ (es : List Event). es ++ noted (replaced old new)) (j .batch))
+note opened j = batchOf (j .places) (some [])
+note kept j = batchOf (j .places) none
+note (takenBack rs) j = batchOf (j .places) none
+
+unfoldable pub noteAll : List Change → Journal → Journal
+noteAll [] j = j
+noteAll (c ∷ cs) j = noteAll cs (note c j)
+
+-- the store and the journal after some changes
+abbrev pub changed : List Change → Books → Books
+changed cs b = record { store = applyAll cs (b .store); journal = noteAll cs (b .journal) }
 
 -- ---- outcomes
 
@@ -82,13 +121,25 @@ onward o i rest =
     (record { changes = o .changes; lines = []; reply = atPlace i (o .reply) })
 
 -- row by row, pair by pair: each against the store as the earlier ones left it
-unfoldable pub inTurn : {A : Type 0} → (State → A → Outcome) → State → ℕ → List A → Outcome
-inTurn f s i [] = did [] i
-inTurn f s i (x ∷ xs) = onward (f s x) i (λ cs. inTurn f (applyAll cs s) (suc i) xs)
+unfoldable pub inTurn : {A : Type 0} → (Books → A → Outcome) → Books → ℕ → List A → Outcome
+inTurn f b i [] = did [] i
+inTurn f b i (x ∷ xs) = onward (f b x) i (λ cs. inTurn f (changed cs b) (suc i) xs)
 
 -- 2: unknown table
 abbrev pub onTable : State → Name → (Table → Outcome) → Outcome
 onTable s n f = maybe (tableNamed (s .tables) n) (refused (no UnknownTable 0)) f
+
+-- 43: n journal places are needed
+unfoldable pub journalFault : Journal → ℕ → Option Refusal
+journalFault j n = first ((JournalFull, lacks j n) ∷ [])
+
+-- why a row is not put in: the row's own checks, then 43
+abbrev pub putFault : Profile → ℕ → Table → Books → Bool → List Value → Option Refusal
+putFault p R t b update v = rowFault p R (b .store) t update v orElse journalFault (b .journal) 1
+
+-- 44: inside a batch
+abbrev pub outside : Books → Outcome → Outcome
+outside b o = cond (isOpen (b .journal)) (refused (no InsideBatch 0)) o
 
 -- ---- 1 create: 3; 4 to 18; 19
 
@@ -114,60 +165,65 @@ drop s n ifExists =
 
 -- ---- 3 insert: 2; 24; each row 21, 22, 23; then row by row
 
-unfoldable pub insertRow : Profile → ℕ → Table → State → List Value → Outcome
-insertRow p R t s v = maybe (rowFault p R s t false v) (did (added (rowOf t v) ∷ []) 1) (λ k. refused (no k 0))
+unfoldable pub insertRow : Profile → ℕ → Table → Books → List Value → Outcome
+insertRow p R t b v =
+    maybe (putFault p R t b false v) (did (added (rowOf t v) ∷ []) 1) (λ k. refused (no k 0))
 
-unfoldable pub insert : Profile → ℕ → State → Name → Option (List ℕ) → List (List Value) → Outcome
-insert p R s n m rows =
-    onTable s n
+unfoldable pub insert : Profile → ℕ → Books → Name → Option (List ℕ) → List (List Value) → Outcome
+insert p R b n m rows =
+    onTable (b .store) n
     (λ t.
     settle
     (at 0 (first ((MapColumn, badMap (length (t .columns)) m) ∷ [])) orElse fillsFault t m 0 rows)
-    (inTurn (insertRow p R t) s 0 (map (fullRow t m) rows)))
+    (inTurn (insertRow p R t) b 0 (map (fullRow t m) rows)))
 
--- ---- 5 delete: 2; 32, tested before anything is removed
+-- ---- 5 delete: 2; 32, 43, tested before anything is removed
 
 -- each key's row in turn; an absent or repeated key removes nothing
 unfoldable pub removals : List Row → Name → List Value → List Change
 removals rs n [] = []
 removals rs n (k ∷ ks) = maybe (rowWith rs n k) (removals rs n ks) (λ r. removed r ∷ removals (withoutRow r rs) n ks)
 
-unfoldable pub delete : State → Name → List Value → Outcome
-delete s n ks =
-    onTable s n
+-- 43: all places before anything is removed
+abbrev pub whereNoted : Books → List Change → Outcome → Outcome
+whereNoted b cs o = maybe (journalFault (b .journal) (length cs)) o (λ k. refused (no k 0))
+
+unfoldable pub delete : Books → Name → List Value → Outcome
+delete b n ks =
+    onTable (b .store) n
     (λ t.
-    maybe (rowReferenced (s .rows) n ks (s .tables))
-    (did (removals (s .rows) n ks) (length ks))
+    maybe (rowReferenced (b .store .rows) n ks (b .store .tables))
+    (whereNoted b (removals (b .store .rows) n ks) (did (removals (b .store .rows) n ks) (length ks)))
     (λ x. refused (noCarrying RowReferenced 0 x)))
 
 -- ---- 4 update: 2; 35; 25; pair by pair
 
 -- the row takes the place of the stored one; without one it is refused by 34
-unfoldable pub sameKey : Profile → ℕ → Table → State → List Value → Outcome
-sameKey p R t s v =
-    maybe (rowFault p R s t true v)
-    (maybe (rowWith (s .rows) (t .name) (keyOf t v)) (did [] 1) (λ old. did (replaced old (rowOf t v) ∷ []) 1))
+unfoldable pub sameKey : Profile → ℕ → Table → Books → List Value → Outcome
+sameKey p R t b v =
+    maybe (putFault p R t b true v)
+    (maybe (rowWith (b .store .rows) (t .name) (keyOf t v)) (did [] 1) (λ old. did (replaced old (rowOf t v) ∷ []) 1))
     (λ k. refused (no k 0))
 
 -- an insert after the old key's row went: GONE where there was one
-unfoldable pub reinsert : Profile → ℕ → Table → State → List Change → List Value → Outcome
-reinsert p R t s cs v =
-    maybe (rowFault p R s t false v)
+unfoldable pub reinsert : Profile → ℕ → Table → Books → List Change → List Value → Outcome
+reinsert p R t b cs v =
+    maybe (putFault p R t b false v)
     (did (cs ++ (added (rowOf t v) ∷ [])) 1)
     (λ k. record { changes = cs; lines = []; reply = withGone (not (isNil cs)) (no k 0) })
 
 -- a delete of the old key, then an insert
-unfoldable pub otherKey : Profile → ℕ → Table → State → Pair → Outcome
-otherKey p R t s q =
-    maybe (rowReferenced (s .rows) (t .name) (q .old ∷ []) (s .tables))
-    (let cs : List Change = removals (s .rows) (t .name) (q .old ∷ []) in reinsert p R t (applyAll cs s) cs (q .row))
+unfoldable pub otherKey : Profile → ℕ → Table → Books → Pair → Outcome
+otherKey p R t b q =
+    maybe (rowReferenced (b .store .rows) (t .name) (q .old ∷ []) (b .store .tables))
+    (let cs : List Change = removals (b .store .rows) (t .name) (q .old ∷ []) in whereNoted b cs (reinsert p R t (changed cs b) cs (q .row)))
     (λ x. refused (noCarrying RowReferenced 0 x))
 
-unfoldable pub pair : Profile → ℕ → Table → State → Pair → Outcome
-pair p R t s q = cond (same (q .old) (keyOf t (q .row))) (sameKey p R t s (q .row)) (otherKey p R t s q)
+unfoldable pub pair : Profile → ℕ → Table → Books → Pair → Outcome
+pair p R t b q = cond (same (q .old) (keyOf t (q .row))) (sameKey p R t b (q .row)) (otherKey p R t b q)
 
-unfoldable pub update : Profile → ℕ → State → Name → List Pair → Outcome
-update p R s n qs = onTable s n (λ t. settle (risingFault 0 qs orElse sizeFault t 0 qs) (inTurn (pair p R t) s 0 qs))
+unfoldable pub update : Profile → ℕ → Books → Name → List Pair → Outcome
+update p R b n qs = onTable (b .store) n (λ t. settle (risingFault 0 qs orElse sizeFault t 0 qs) (inTurn (pair p R t) b 0 qs))
 
 -- ---- 6 get, 8 scan: an unknown table has no rows; 7 lookup: 2; 37; 9 list
 
@@ -187,24 +243,41 @@ lookedUp rs n i vs = map (λ (r : Row). r .key ∷ []) (keep (λ r. ofTable n r 
 unfoldable pub lookup : State → Name → ℕ → List Value → Outcome
 lookup s n i vs = onTable s n (λ t. settle (at 0 (first ((NotIndexed, not (isIndexed t i)) ∷ []))) (shows (lookedUp (s .rows) n i vs)))
 
+-- ---- 12 open, 13 keep, 14 take back: 45
+
+abbrev pub outOfTurn : Outcome
+outOfTurn = refused (no BatchOutOfTurn 0)
+
+unfoldable pub openBatch : Books → Outcome
+openBatch b = cond (isOpen (b .journal)) outOfTurn (did (opened ∷ []) 0)
+
+unfoldable pub keepBatch : Books → Outcome
+keepBatch b = cond (isOpen (b .journal)) (did (kept ∷ []) 0) outOfTurn
+
+unfoldable pub takeBack : Books → Outcome
+takeBack b = maybe (b .journal .batch) outOfTurn (λ es. did (takenBack (unwound es (b .store .rows)) ∷ []) 0)
+
 -- ---- the step
 
-unfoldable pub act : Profile → ℕ → State → Request → Outcome
-act p R s (Create t) = create p s t
-act p R s (Drop n ifExists) = drop s n ifExists
-act p R s (Insert n m rows) = insert p R s n m rows
-act p R s (Update n qs) = update p R s n qs
-act p R s (Delete n ks) = delete s n ks
-act p R s (Get n ks) = shows (found (s .rows) n ks)
-act p R s (Lookup n i vs) = lookup s n i vs
-act p R s (Scan n) = shows (map (λ (r : Row). r .cells) (rowsOf (s .rows) n))
-act p R s Names = shows (map (λ (t : Table). text (t .name) ∷ []) (s .tables))
+unfoldable pub act : Profile → ℕ → Books → Request → Outcome
+act p R b (Create t) = outside b (create p (b .store) t)
+act p R b (Drop n ifExists) = outside b (drop (b .store) n ifExists)
+act p R b (Insert n m rows) = insert p R b n m rows
+act p R b (Update n qs) = update p R b n qs
+act p R b (Delete n ks) = delete b n ks
+act p R b (Get n ks) = shows (found (b .store .rows) n ks)
+act p R b (Lookup n i vs) = lookup (b .store) n i vs
+act p R b (Scan n) = shows (map (λ (r : Row). r .cells) (rowsOf (b .store .rows) n))
+act p R b Names = shows (map (λ (t : Table). text (t .name) ∷ []) (b .store .tables))
+act p R b Open = openBatch b
+act p R b Keep = keepBatch b
+act p R b Back = takeBack b
 
-unfoldable pub step : Profile → ℕ → State → Request → Outcome
-step p R s q = act p R s (entered q)
+unfoldable pub step : Profile → ℕ → Books → Request → Outcome
+step p R b q = act p R b (entered q)
 
-unfoldable pub after : Profile → ℕ → State → Request → State
-after p R s q = applyAll ((step p R s q) .changes) s
+unfoldable pub after : Profile → ℕ → Books → Request → Books
+after p R b q = changed ((step p R b q) .changes) b
 
 -- ---- a sequence: what is written for each, and the store at its end
 
@@ -212,12 +285,12 @@ pub record Written : Type 0 where
   pub lines : List (List Value)
   pub reply : Reply
 
-unfoldable pub run : Profile → ℕ → State → List Request → List Written
-run p R s [] = []
-run p R s (q ∷ qs) =
-    let o : Outcome = step p R s q in
-    record { lines = o .lines; reply = o .reply } ∷ run p R (applyAll (o .changes) s) qs
+unfoldable pub run : Profile → ℕ → Books → List Request → List Written
+run p R b [] = []
+run p R b (q ∷ qs) =
+    let o : Outcome = step p R b q in
+    record { lines = o .lines; reply = o .reply } ∷ run p R (changed (o .changes) b) qs
 
-unfoldable pub runAfter : Profile → ℕ → State → List Request → State
-runAfter p R s [] = s
-runAfter p R s (q ∷ qs) = runAfter p R (after p R s q) qs
+unfoldable pub runAfter : Profile → ℕ → Books → List Request → Books
+runAfter p R b [] = b
+runAfter p R b (q ∷ qs) = runAfter p R (after p R b q) qs

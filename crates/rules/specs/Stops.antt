@@ -11,16 +11,17 @@ use Rattle.values.specs.Value.{Value, same}
 use Rattle.rules.specs.declared.profile.Profile.{Profile}
 use Rattle.rules.specs.declared.answer.Refusal.{Refusal}
 use Rattle.rules.specs.declared.answer.Refusal.the-variants.{RowReferenced}
-use Rattle.rules.specs.State.{Name, Table, Row, State, tableNamed, rowWith, keyOf}
+use Rattle.rules.specs.State.{Name, Table, Row, tableNamed, rowWith, keyOf}
+use Rattle.rules.specs.Journal.{Books}
 use Rattle.rules.specs.Request.{Pair, Request, Update, enteredPair, no, Carried, noCarrying, withGone}
-use Rattle.rules.specs.Rows.{fillsFault, fullRow, risingFault, sizeFault, rowFault, rowReferenced}
-use Rattle.rules.specs.Step.{Change, removed, apply, applyAll, Outcome, did, refused, isAccepted, atPlace, inTurn, insertRow, pair}
+use Rattle.rules.specs.Rows.{fillsFault, fullRow, risingFault, sizeFault, rowReferenced}
+use Rattle.rules.specs.Step.{Change, removed, changed, removals, journalFault, putFault, Outcome, did, refused, isAccepted, atPlace, inTurn, insertRow, pair}
 
 -- ---- an item's turn
 
-module _ {A : Type 0} (f : State → A → Outcome) where
+module _ {A : Type 0} (f : Books → A → Outcome) where
   -- items that are accepted one after the other, with their changes, and then an item's turn
-  pub record Turn (s : State) (i : ℕ) (xs : List A) : Type 0 where
+  pub record Turn (s : Books) (i : ℕ) (xs : List A) : Type 0 where
     pub before : List A
     pub item : A
     pub behind : List A
@@ -29,51 +30,54 @@ module _ {A : Type 0} (f : State → A → Outcome) where
     pub through : inTurn f s i before ≡ did earlier (i + length before)
 
   -- what is done with the item, and what a run that stops there answers
-  abbrev pub outcomeAt : {s : State} {i : ℕ} {xs : List A} → Turn s i xs → Outcome
-  outcomeAt {s} t = f (applyAll (t .earlier) s) (t .item)
+  abbrev pub outcomeAt : {s : Books} {i : ℕ} {xs : List A} → Turn s i xs → Outcome
+  outcomeAt {s} t = f (changed (t .earlier) s) (t .item)
 
-  abbrev pub stopAt : {s : State} {i : ℕ} {xs : List A} → Turn s i xs → Outcome
+  abbrev pub stopAt : {s : Books} {i : ℕ} {xs : List A} → Turn s i xs → Outcome
   stopAt {s} {i} t =
       record {
-        changes = t .earlier ++ (f (applyAll (t .earlier) s) (t .item)) .changes;
+        changes = t .earlier ++ (f (changed (t .earlier) s) (t .item)) .changes;
         lines = [];
-        reply = atPlace (i + length (t .before)) ((f (applyAll (t .earlier) s) (t .item)) .reply);
+        reply = atPlace (i + length (t .before)) ((f (changed (t .earlier) s) (t .item)) .reply);
       }
 
 -- ---- an insert: the rows before AT, each accepted, stay
 
 -- o is what an insert answers that was refused at a row
-pub record InsertStops (p : Profile) (R : ℕ) (s : State) (n : Name) (m : Option (List ℕ)) (rows : List (List Value)) (o : Outcome)
+pub record InsertStops (p : Profile) (R : ℕ) (s : Books) (n : Name) (m : Option (List ℕ)) (rows : List (List Value)) (o : Outcome)
     : Type 0 where
   pub table : Table
-  pub found : tableNamed (s .tables) n ≡ some table
+  pub found : tableNamed (s .store .tables) n ≡ some table
   pub filled : fillsFault table m 0 rows ≡ none
   pub turn : Turn (insertRow p R table) s 0 (map (fullRow table m) rows)
   pub kind : Refusal
-  pub fault : rowFault p R (applyAll (turn .earlier) s) table false (turn .item) ≡ some kind
+  pub fault : putFault p R table (changed (turn .earlier) s) false (turn .item) ≡ some kind
   pub is : o ≡ record { changes = turn .earlier; lines = []; reply = no kind (length (turn .before)) }
 
 -- ---- an update: the pairs before AT, each accepted, stay; GONE tells whether the refused pair's old row went
 
 -- why a pair is refused, and what of it stays
-pub data PairStops (p : Profile) (R : ℕ) (t : Table) (s : State) (q : Pair) (o : Outcome) : Type 0 where
-  keeps-key : (k : Refusal) → same (q .old) (keyOf t (q .row)) ≡ true → rowFault p R s t true (q .row) ≡ some k
+pub data PairStops (p : Profile) (R : ℕ) (t : Table) (s : Books) (q : Pair) (o : Outcome) : Type 0 where
+  keeps-key : (k : Refusal) → same (q .old) (keyOf t (q .row)) ≡ true → putFault p R t s true (q .row) ≡ some k
       → o ≡ refused (no k 0) → PairStops p R t s q o
   old-referenced : (x : Carried) → same (q .old) (keyOf t (q .row)) ≡ false
-      → rowReferenced (s .rows) (t .name) (q .old ∷ []) (s .tables) ≡ some x
+      → rowReferenced (s .store .rows) (t .name) (q .old ∷ []) (s .store .tables) ≡ some x
       → o ≡ refused (noCarrying RowReferenced 0 x) → PairStops p R t s q o
+  no-place : (k : Refusal) → same (q .old) (keyOf t (q .row)) ≡ false
+      → rowReferenced (s .store .rows) (t .name) (q .old ∷ []) (s .store .tables) ≡ none
+      → journalFault (s .journal) (length (removals (s .store .rows) (t .name) (q .old ∷ []))) ≡ some k → o ≡ refused (no k 0) → PairStops p R t s q o
   no-old : (k : Refusal) → same (q .old) (keyOf t (q .row)) ≡ false
-      → rowReferenced (s .rows) (t .name) (q .old ∷ []) (s .tables) ≡ none → rowWith (s .rows) (t .name) (q .old) ≡ none
-      → rowFault p R s t false (q .row) ≡ some k → o ≡ refused (no k 0) → PairStops p R t s q o
+      → rowReferenced (s .store .rows) (t .name) (q .old ∷ []) (s .store .tables) ≡ none → rowWith (s .store .rows) (t .name) (q .old) ≡ none
+      → putFault p R t s false (q .row) ≡ some k → o ≡ refused (no k 0) → PairStops p R t s q o
   old-gone : (k : Refusal) (r : Row) → same (q .old) (keyOf t (q .row)) ≡ false
-      → rowReferenced (s .rows) (t .name) (q .old ∷ []) (s .tables) ≡ none → rowWith (s .rows) (t .name) (q .old) ≡ some r
-      → rowFault p R (apply (removed r) s) t false (q .row) ≡ some k
+      → rowReferenced (s .store .rows) (t .name) (q .old ∷ []) (s .store .tables) ≡ none → rowWith (s .store .rows) (t .name) (q .old) ≡ some r
+      → journalFault (s .journal) 1 ≡ none → putFault p R t (changed (removed r ∷ []) s) false (q .row) ≡ some k
       → o ≡ record { changes = removed r ∷ []; lines = []; reply = withGone true (no k 0) } → PairStops p R t s q o
 
 -- o is what an update answers that was refused at a pair
-pub record UpdateStops (p : Profile) (R : ℕ) (s : State) (n : Name) (qs : List Pair) (o : Outcome) : Type 0 where
+pub record UpdateStops (p : Profile) (R : ℕ) (s : Books) (n : Name) (qs : List Pair) (o : Outcome) : Type 0 where
   pub table : Table
-  pub found : tableNamed (s .tables) n ≡ some table
+  pub found : tableNamed (s .store .tables) n ≡ some table
   pub rising : (risingFault 0 qs orElse sizeFault table 0 qs) ≡ none
   pub turn : Turn (pair p R table) s 0 qs
   pub stop : isAccepted ((outcomeAt (pair p R table) turn) .reply) ≡ false
@@ -82,21 +86,22 @@ pub record UpdateStops (p : Profile) (R : ℕ) (s : State) (n : Name) (qs : List
 -- ---- GONE is 1 exactly when a pair was refused after its old row was removed
 
 -- another key, the old row stored and free, and the new row refused
-pub record Gone (p : Profile) (R : ℕ) (t : Table) (s : State) (q : Pair) : Type 0 where
+pub record Gone (p : Profile) (R : ℕ) (t : Table) (s : Books) (q : Pair) : Type 0 where
   pub other : same (q .old) (keyOf t (q .row)) ≡ false
-  pub free : rowReferenced (s .rows) (t .name) (q .old ∷ []) (s .tables) ≡ none
+  pub free : rowReferenced (s .store .rows) (t .name) (q .old ∷ []) (s .store .tables) ≡ none
   pub row : Row
-  pub stored : rowWith (s .rows) (t .name) (q .old) ≡ some row
+  pub stored : rowWith (s .store .rows) (t .name) (q .old) ≡ some row
+  pub place : journalFault (s .journal) 1 ≡ none
   pub kind : Refusal
-  pub fault : rowFault p R (apply (removed row) s) t false (q .row) ≡ some kind
+  pub fault : putFault p R t (changed (removed row ∷ []) s) false (q .row) ≡ some kind
 
 -- q is an update, and one of its pairs is such when its turn comes
-pub record GoneAt (p : Profile) (R : ℕ) (s : State) (q : Request) : Type 0 where
+pub record GoneAt (p : Profile) (R : ℕ) (s : Books) (q : Request) : Type 0 where
   pub name : Name
   pub pairs : List Pair
   pub asked : q ≡ Update name pairs
   pub table : Table
-  pub found : tableNamed (s .tables) name ≡ some table
+  pub found : tableNamed (s .store .tables) name ≡ some table
   pub rising : (risingFault 0 (map enteredPair pairs) orElse sizeFault table 0 (map enteredPair pairs)) ≡ none
   pub turn : Turn (pair p R table) s 0 (map enteredPair pairs)
-  pub gone : Gone p R table (applyAll (turn .earlier) s) (turn .item)
+  pub gone : Gone p R table (changed (turn .earlier) s) (turn .item)

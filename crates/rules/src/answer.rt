@@ -46,6 +46,9 @@ pub enum Refusal {
     KeysNotRising,
     NotIndexed,
     StoreUnsound,
+    JournalFull,
+    InsideBatch,
+    BatchOutOfTurn,
 }
 
 // `kind` says why, `count` is N, `at` and `gone` are AT and GONE; what 20 and 32 carry stands beside them.
@@ -102,6 +105,9 @@ pub fn number(k: Refusal) -> u64
         Refusal::KeysNotRising => 35,
         Refusal::NotIndexed => 37,
         Refusal::StoreUnsound => 38,
+        Refusal::JournalFull => 43,
+        Refusal::InsideBatch => 44,
+        Refusal::BatchOutOfTurn => 45,
     }
 }
 
