@@ -13,7 +13,7 @@ use Rattle.forms.specs.Read.{Read, got, broken, nameAt, valueAt}
 use Rattle.forms.proofs.Reading.{name-read, value-read}
 use Rattle.rules.specs.declared.profile.Profile.{Profile}
 use Rattle.rules.specs.State.{Column}
-use Rattle.rules.specs.Request.{Pair, Request, Delete, Get, Names, enteredColumn}
+use Rattle.rules.specs.Request.{Pair, Request, Delete, Get, Names, Open, Keep, Back, enteredColumn}
 use Rattle.rules.specs.Sound.{all, every, goodName, goodColumn, goodTable, canonicalDefault, goodReference}
 use Rattle.rules.specs.Readable.{writable, readable}
 use Rattle.rules.proofs.Tests.{all-nil, all-cons}
@@ -241,7 +241,10 @@ module _ (s : List ℕ) (h : Bytes s) where
         (gives-either Fine (eqb k 6) _ _ (gives-keys Get at (λ t ks e f. all-cons _ _ e (all-cons _ _ f all-nil)))
         (gives-either Fine (eqb k 7) _ _ (gives-lookup at)
         (gives-either Fine (eqb k 8) _ _ (gives-scan at)
-        (gives-either Fine (eqb k 9) _ _ (gives-got Fine Names at refl) (gives-broken Fine 1)))))))))
+        (gives-either Fine (eqb k 9) _ _ (gives-got Fine Names at refl)
+        (gives-either Fine (eqb k 12) _ _ (gives-got Fine Open at refl)
+        (gives-either Fine (eqb k 13) _ _ (gives-got Fine Keep at refl)
+        (gives-either Fine (eqb k 14) _ _ (gives-got Fine Back at refl) (gives-broken Fine 1))))))))))))
 
     -- a request that is read is readable
     pub read-readable : (q : Request) (end : ℕ) → requestOf s p ≡ got q end → readable p q ≡ true

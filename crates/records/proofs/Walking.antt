@@ -169,10 +169,10 @@ pub operation : (s : List ℕ) (p : Profile) (k m at : ℕ) → k ≡ m → walk
 operation s p k m at e = rw e
 
 pub unknown : (s : List ℕ) (p : Profile) (k at : ℕ) → (k ≡ 1 → ⊥) → (k ≡ 2 → ⊥) → (k ≡ 3 → ⊥) → (k ≡ 4 → ⊥) → (k ≡ 5 → ⊥) → (k ≡ 6 → ⊥) → (k ≡ 7 → ⊥)
-    → (k ≡ 8 → ⊥) → (k ≡ 9 → ⊥) → Breaks 1 ≡ walkedAs (operandsAt s p k at)
+    → (k ≡ 8 → ⊥) → (k ≡ 9 → ⊥) → (k ≡ 12 → ⊥) → (k ≡ 13 → ⊥) → (k ≡ 14 → ⊥) → Breaks 1 ≡ walkedAs (operandsAt s p k at)
 unfolding walkedAs operandsAt
-unknown s p k at a b c d e f g h i =
-    simp (ne-eqb _ _ a, ne-eqb _ _ b, ne-eqb _ _ c, ne-eqb _ _ d, ne-eqb _ _ e, ne-eqb _ _ f, ne-eqb _ _ g, ne-eqb _ _ h, ne-eqb _ _ i)
+unknown s p k at a b c d e f g h i j l m =
+    simp (ne-eqb _ _ a, ne-eqb _ _ b, ne-eqb _ _ c, ne-eqb _ _ d, ne-eqb _ _ e, ne-eqb _ _ f, ne-eqb _ _ g, ne-eqb _ _ h, ne-eqb _ _ i, ne-eqb _ _ j, ne-eqb _ _ l, ne-eqb _ _ m)
 
 -- ---- nothing may be left over
 

@@ -11,7 +11,7 @@ use Rattle.forms.specs.Read.{Read, got, broken, nameAt, valueAt}
 use Rattle.rules.specs.declared.profile.Profile.{Profile}
 use Rattle.rules.specs.State.{Column}
 use Rattle.rules.specs.Layout.{bit}
-use Rattle.rules.specs.Request.{Pair, Request, Create, Drop, Insert, Update, Delete, Get, Lookup, Scan, Names}
+use Rattle.rules.specs.Request.{Pair, Request, Create, Drop, Insert, Update, Delete, Get, Lookup, Scan, Names, Open, Keep, Back}
 use Rattle.records.specs.Reading.{andThen, times, flagged, byteAt, byteFrom}
 
 module _ (s : List ℕ) where
@@ -111,7 +111,10 @@ module _ (s : List ℕ) where
       (cond (eqb k 6) (keysAt Get at)
       (cond (eqb k 7) (lookupAt at)
       (cond (eqb k 8) (scanAt at)
-      (cond (eqb k 9) (got Names at) (broken 1)))))))))
+      (cond (eqb k 9) (got Names at)
+      (cond (eqb k 12) (got Open at)
+      (cond (eqb k 13) (got Keep at)
+      (cond (eqb k 14) (got Back at) (broken 1))))))))))))
 
   -- version byte 1, operation, operands, and nothing left over
   unfoldable pub requestOf : Profile → Read Request

@@ -412,6 +412,9 @@ fn operands_end(s: &[u8], p: Profile, k: u8, at: usize) -> Walked
         7 => lookup_end(s, at),
         8 => scan_end(s, at),
         9 => Walked::Ends(at),
+        12 => Walked::Ends(at),
+        13 => Walked::Ends(at),
+        14 => Walked::Ends(at),
         _ => Walked::Breaks(1),
     }
 }

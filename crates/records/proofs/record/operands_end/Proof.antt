@@ -67,8 +67,19 @@ unfolding operandsAt
 returns-9 c = ends _ _ ∙ operation _ _ _ 9 _ (c .match .keys9)
 
 returns-10 : tie.Need-returns-10
-returns-10 c =
-    unknown _ _ _ _ (c .match .rest .0 .0 .0 .0 .0 .0 .0 .0 .1) (c .match .rest .0 .0 .0 .0 .0 .0 .0 .1) (c .match .rest .0 .0 .0 .0 .0 .0 .1) (c .match .rest .0 .0 .0 .0 .0 .1) (c .match .rest .0 .0 .0 .0 .1) (c .match .rest .0 .0 .0 .1) (c .match .rest .0 .0 .1) (c .match .rest .0 .1) (c .match .rest .1)
+unfolding operandsAt
+returns-10 c = ends _ _ ∙ operation _ _ _ 12 _ (c .match .keys10)
+
+returns-11 : tie.Need-returns-11
+unfolding operandsAt
+returns-11 c = ends _ _ ∙ operation _ _ _ 13 _ (c .match .keys11)
+
+returns-12 : tie.Need-returns-12
+unfolding operandsAt
+returns-12 c = ends _ _ ∙ operation _ _ _ 14 _ (c .match .keys12)
+
+returns-13 : tie.Need-returns-13
+returns-13 c = unknown _ _ _ _ (c .match .rest .0 .0 .0 .0 .0 .0 .0 .0 .0 .0 .0 .1) (c .match .rest .0 .0 .0 .0 .0 .0 .0 .0 .0 .0 .1) (c .match .rest .0 .0 .0 .0 .0 .0 .0 .0 .0 .1) (c .match .rest .0 .0 .0 .0 .0 .0 .0 .0 .1) (c .match .rest .0 .0 .0 .0 .0 .0 .0 .1) (c .match .rest .0 .0 .0 .0 .0 .0 .1) (c .match .rest .0 .0 .0 .0 .0 .1) (c .match .rest .0 .0 .0 .0 .1) (c .match .rest .0 .0 .0 .1) (c .match .rest .0 .0 .1) (c .match .rest .0 .1) (c .match .rest .1)
 
 pub operands-end-spec : {M : Type 1} → statement M
 operands-end-spec =
@@ -91,4 +102,7 @@ operands-end-spec =
     returns-7
     returns-8
     returns-9
-    returns-10)
+    returns-10
+    returns-11
+    returns-12
+    returns-13)
