@@ -11,8 +11,9 @@ use Rattle.rules.specs.declared.profile.Profile.{Profile}
 use Rattle.rules.specs.Profile.{Indexed, placesMost}
 use Rattle.rules.specs.Journal.{Event, Journal, Books, batchOf}
 use Rattle.rules.specs.Layout.{image, parse, placesOf}
-use Rattle.rules.specs.Request.{Request}
-use Rattle.rules.specs.Step.{Change, created, dropped, added, removed, replaced, opened, kept, takenBack, note, noteAll, changed, after, step}
+use Rattle.rules.specs.Request.{Request, said}
+use Rattle.rules.specs.declared.answer.Answer.{Answer}
+use Rattle.rules.specs.Step.{Change, created, dropped, added, removed, replaced, opened, kept, takenBack, note, noteAll, applyAll, changed, Outcome, after, step}
 use Rattle.rules.specs.Readable.{readable}
 use Rattle.rules.specs.Sound.{every, goodEvent}
 use Rattle.rules.specs.Pages.{journalMost, eventWidth, eventRecord, journalImage, journalPlaces, parseJournal, booksOf, soundBooks}
@@ -25,7 +26,7 @@ use Rattle.rules.proofs.Paged.{event-long, open-back, closed-back, books-sound,
 use Rattle.laid.specs.Store.{LaidStore}
 use Rattle.laid.proofs.Stores.{held-state}
 use Rattle.journal.specs.Page.{Paging, inUse, Journaled}
-use Rattle.journal.specs.Books.{LaidBooks, Booked, BytesOf}
+use Rattle.journal.specs.Books.{LaidBooks, Booked, BytesOf, Settled}
 use Rattle.journal.proofs.Events.{placed}
 
 -- ---- laid out
@@ -189,6 +190,14 @@ module _ {p : Profile} {R : ℕ} {s j : List ℕ} (b : Booked p R s j) where
   pub laid-books : LaidBooks p R s j
   unfolding parseJournal
   laid-books = laid-books-of booked-fitting (right-pages right-of (b .most)) booked-bytes
+
+  -- ---- after an outcome that changes nothing, a refusal or a read
+
+  pub settled-still : (o : Outcome) → o .changes ≡ [] → (a : Answer) → said a ≡ o .reply → Settled p R o s j s j a
+  unfolding applyAll noteAll
+  settled-still o e a h =
+      let z : changed (o .changes) (booksOf p R s j) ≡ booksOf p R s j = ap (λ (cs : List Change). changed cs (booksOf p R s j)) e in
+      record { answer = h; bytes = subst (λ (x : Books). BytesOf p R x s j) (sym z) booked-bytes }
 
   -- ---- after changes that keep books right
 

@@ -8,7 +8,7 @@ use mathlib.Core.List.{List, [], _∷_, map}
 use mathlib.Core.Option.{Option, none, some, Option·map}
 use lib.Dec.{eqb, ltb}
 use lib.ListN.{length, getD}
-use borrow.Author.Tests.{ne-eqb}
+use borrow.Author.Tests.{ne-eqb, ltb-true}
 use Rattle.values.specs.Basic.{maybe}
 use Rattle.values.specs.Value.{Value, normalised}
 use Rattle.forms.specs.Read.{Read, got, broken, nameAt, valueAt}
@@ -16,16 +16,19 @@ use Rattle.forms.proofs.Reading.{value-read}
 use Rattle.rules.specs.declared.profile.Profile.{Profile}
 use Rattle.rules.specs.declared.answer.Answer.{Answer}
 use Rattle.rules.specs.declared.answer.Refusal.the-variants.{RecordBroken}
-use Rattle.rules.specs.State.{Name, State}
-use Rattle.rules.specs.Layout.{bit, image, parse}
-use Rattle.rules.specs.Request.{Request, Delete, Get, Lookup, Scan, Names, enteredColumn, enteredPair, entered, said, no}
-use Rattle.rules.specs.Step.{Change, Outcome, applyAll, lookup, act, step}
-use Rattle.laid.specs.Store.{Store, Stored}
-use Rattle.store.proofs.Outcomes.{unchanged}
+use Rattle.rules.specs.State.{Name}
+use Rattle.rules.specs.Journal.{Books}
+use Rattle.rules.specs.Layout.{bit}
+use Rattle.rules.specs.Request.{Request, Delete, Get, Lookup, Scan, Names, Open, Keep, Back, enteredColumn, enteredPair, entered, said, no}
+use Rattle.rules.specs.Step.{Outcome, refused, lookup, act, step}
+use Rattle.rules.specs.Pages.{booksOf}
+use Rattle.rules.proofs.Tests.{and-left, and-right}
+use Rattle.journal.specs.Books.{Booked, Settled}
+use Rattle.journal.proofs.Booking.{settled-still}
 use Rattle.mapping.specs.Got.{isGot, gotOr}
 use Rattle.records.specs.Reading.{andThen, times, flagged, byteAt, byteFrom}
 use Rattle.records.specs.Record.{valuesAt, columnAt, createAt, dropAt, mapAt, insertAt, pairAt, updateAt, keysAt, lookupAt, scanAt, operandsAt, requestOf}
-use Rattle.operations.specs.Told.{Acted, Replied, outcomeOf}
+use Rattle.operations.specs.Told.{Acted, Replied, reads, outcomeOf}
 use Rattle.records.specs.Walked.{walkedAs}
 use Rattle.records.specs.declared.record.Walked.{Walked}
 use Rattle.records.specs.declared.record.Walked.the-variants.{Ends, Breaks}
@@ -151,7 +154,10 @@ module _ (s : List ℕ) where
         (gives-either (Same entered) (eqb k 6) _ _ (same-keys Get at (λ n ks e. ap (Get n) e))
         (gives-either (Same entered) (eqb k 7) _ _ (same-lookup at)
         (gives-either (Same entered) (eqb k 8) _ _ (same-scan at)
-        (gives-either (Same entered) (eqb k 9) _ _ (gives-got (Same entered) Names at refl) (gives-broken (Same entered) 1)))))))))
+        (gives-either (Same entered) (eqb k 9) _ _ (gives-got (Same entered) Names at refl)
+        (gives-either (Same entered) (eqb k 12) _ _ (gives-got (Same entered) Open at refl)
+        (gives-either (Same entered) (eqb k 13) _ _ (gives-got (Same entered) Keep at refl)
+        (gives-either (Same entered) (eqb k 14) _ _ (gives-got (Same entered) Back at refl) (gives-broken (Same entered) 1))))))))))))
 
     -- a request that is read is as it is on entry
     pub read-entered : (q : Request) (end : ℕ) → requestOf s p ≡ got q end → entered q ≡ q
@@ -166,25 +172,32 @@ module _ (s : List ℕ) where
         (λ r m z. gives-either (Same entered) (ltb m (length s)) _ _ (gives-broken (Same entered) m) (gives-got (Same entered) r m z)))))
         e
 
--- ---- operations from 6 on change nothing
+-- ---- operations 6 to 9 change nothing
 
-module _ (p : Profile) (R : ℕ) (st : State) where
+pub reads-range : (k : ℕ) → reads k ≡ true → (5 < k) × (k < 10)
+unfolding reads
+reads-range k h = (ltb-true 5 k (and-left (ltb 5 k) _ h), ltb-true k 10 (and-right (ltb 5 k) _ h))
+
+module _ (p : Profile) (R : ℕ) (b : Books) where
   abbrev pub Still : Request → Type 0
-  Still q = (act p R st q) .changes ≡ []
+  Still q = (act p R b q) .changes ≡ []
 
   either : {A : Type 0} (o : Option A) (x : Outcome) (f : A → Outcome) → x .changes ≡ [] → ((a : A) → (f a) .changes ≡ []) → (maybe o x f) .changes ≡ []
   unfolding maybe
   either none x f h k = h
   either (some a) x f h k = k a
 
-  still-lookup : (n : Name) (i : ℕ) (vs : List Value) → (lookup st n i vs) .changes ≡ []
+  still-lookup : (n : Name) (i : ℕ) (vs : List Value) → (lookup (b .store) n i vs) .changes ≡ []
   unfolding lookup
   still-lookup n i vs = either _ _ _ refl (λ t. either _ _ _ refl (λ x. refl))
 
-  pub still-operands : (s : List ℕ) (k at : ℕ) → 5 < k → Gives Still (operandsAt s p k at)
+  pub still-operands : (s : List ℕ) (k at : ℕ) → reads k ≡ true → Gives Still (operandsAt s p k at)
   unfolding operandsAt keysAt lookupAt scanAt act
   still-operands s k at h =
-      simp (ne-eqb k 1 (omega arith), ne-eqb k 2 (omega arith), ne-eqb k 3 (omega arith), ne-eqb k 4 (omega arith), ne-eqb k 5 (omega arith))
+      let l = reads-range k h in
+      let low : 5 < k = l .0 in
+      let high : k < 10 = l .1 in
+      simp (ne-eqb k 1 (omega arith), ne-eqb k 2 (omega arith), ne-eqb k 3 (omega arith), ne-eqb k 4 (omega arith), ne-eqb k 5 (omega arith), ne-eqb k 12 (omega arith), ne-eqb k 13 (omega arith), ne-eqb k 14 (omega arith))
       (gives-either Still (eqb k 6) _ _
       (gives-then Any Still (nameAt s at) _ (any (nameAt s at))
       (λ n a e. gives-then Any Still (valuesAt s a) _ (any (valuesAt s a)) (λ ks b f. gives-got Still (Get n ks) b refl)))
@@ -253,38 +266,37 @@ module _ (p : Profile) (rec : List ℕ) (r : Walked) (e : r ≡ walkedAs (reques
     pub operands-got : isGot (operandsAt rec p k 2) ≡ true
     operands-got = got-is (operandsAt rec p k 2) (its .what) (its .end) operands-are
 
-    pub outcome-is : (R : ℕ) (st : State) → outcomeOf p R st (requestOf rec p) ≡ act p R st (gotOr Names (operandsAt rec p k 2))
+    pub outcome-is : (R : ℕ) (b : Books) → outcomeOf p R b (requestOf rec p) ≡ act p R b (gotOr Names (operandsAt rec p k 2))
     unfolding outcomeOf step
-    outcome-is R st =
-        ap (outcomeOf p R st) (its .all)
-        ∙ ap (act p R st)
+    outcome-is R b =
+        ap (outcomeOf p R b) (its .all)
+        ∙ ap (act p R b)
         (read-entered rec p (its .what) (its .end) (its .all)
         ∙ sym (got-gives Names (operandsAt rec p k 2) (its .what) (its .end) operands-are))
 
-    module _ (R : ℕ) (s : List ℕ) (a : Answer) where
+    module _ (R : ℕ) (s j : List ℕ) (a : Answer) where
+      abbrev books : Books
+      books = booksOf p R s j
+
       -- a write
-      pub written : (t : List ℕ) → Acted p R (operandsAt rec p k 2) s t a → Stored p R (outcomeOf p R (parse p R s) (requestOf rec p)) s t a
-      written t h = rw (outcome-is R (parse p R s)) h
+      pub written : (s₁ j₁ : List ℕ) → Acted p R (operandsAt rec p k 2) s j s₁ j₁ a → Settled p R (outcomeOf p R (booksOf p R s j) (requestOf rec p)) s j s₁ j₁ a
+      written s₁ j₁ h = rw (outcome-is R books) h
 
       -- a read
-      pub read-only : Store p R s → 5 < k → Replied p R (operandsAt rec p k 2) s a → Stored p R (outcomeOf p R (parse p R s) (requestOf rec p)) s s a
-      unfolding applyAll
+      pub read-only : Booked p R s j → reads k ≡ true → Replied p R (operandsAt rec p k 2) s a
+          → Settled p R (outcomeOf p R (booksOf p R s j) (requestOf rec p)) s j s j a
       read-only b l h =
-          let o = outcome-is R (parse p R s) in
-          let c : (outcomeOf p R (parse p R s) (requestOf rec p)) .changes ≡ [] =
-          ap (λ (x : Outcome). x .changes) o
-          ∙ ap (λ (q : Request). (act p R (parse p R s) q) .changes) (got-gives Names (operandsAt rec p k 2) (its .what) (its .end) operands-are)
-          ∙ given (Still p R (parse p R s)) (operandsAt rec p k 2) (its .what) (its .end) (still-operands p R (parse p R s) rec k 2 l) operands-are
-          in
-          record {
-            answer = h ∙ sym (ap (λ (x : Outcome). x .reply) o);
-            bytes = b .bytes ∙ ap (λ (cs : List Change). image p R (applyAll cs (parse p R s))) (sym c);
-          }
+          let o = outcome-is R books in
+          settled-still b (outcomeOf p R books (requestOf rec p))
+          (ap (λ (x : Outcome). x .changes) o
+          ∙ ap (λ (q : Request). (act p R books q) .changes) (got-gives Names (operandsAt rec p k 2) (its .what) (its .end) operands-are)
+          ∙ given (Still p R books) (operandsAt rec p k 2) (its .what) (its .end) (still-operands p R books rec k 2 l) operands-are)
+          a (h (books .journal) ∙ sym (ap (λ (x : Outcome). x .reply) o))
 
   -- a broken record
-  pub broken-kept : (x : ℕ) → r ≡ Breaks x → (R : ℕ) (s : List ℕ) → Store p R s → (a : Answer) → said a ≡ no RecordBroken 0
-      → Stored p R (outcomeOf p R (parse p R s) (requestOf rec p)) s s a
+  pub broken-kept : (x : ℕ) → r ≡ Breaks x → (R : ℕ) (s j : List ℕ) → Booked p R s j → (a : Answer) → said a ≡ no RecordBroken 0
+      → Settled p R (outcomeOf p R (booksOf p R s j) (requestOf rec p)) s j s j a
   unfolding outcomeOf
-  broken-kept x h R s b a g =
-      unchanged p R s b (outcomeOf p R (parse p R s) (requestOf rec p)) (no RecordBroken 0)
-      (ap (outcomeOf p R (parse p R s)) (walked-broken (requestOf rec p) r x e h)) a g
+  broken-kept x h R s j b a g =
+      let o : outcomeOf p R (booksOf p R s j) (requestOf rec p) ≡ refused (no RecordBroken 0) = ap (outcomeOf p R (booksOf p R s j)) (walked-broken (requestOf rec p) r x e h) in
+      settled-still b (outcomeOf p R (booksOf p R s j) (requestOf rec p)) (ap (λ (x : Outcome). x .changes) o) a (g ∙ sym (ap (λ (x : Outcome). x .reply) o))

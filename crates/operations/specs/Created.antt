@@ -2,7 +2,7 @@
 use mathlib.Core.List.{[]}
 use Rattle.forms.specs.Read.{Read}
 use Rattle.rules.specs.State.{Column, Table}
-use Rattle.rules.specs.Request.{Request, Create, Drop, Insert, Update, Delete, Get, Lookup, Scan, Names}
+use Rattle.rules.specs.Request.{Request, Create, Drop, Insert, Update, Delete, Get, Lookup, Scan, Names, Open, Keep, Back}
 use Rattle.laid.specs.Row.{noColumn}
 use Rattle.mapping.specs.Got.{gotOr}
 
@@ -22,6 +22,9 @@ schemaOf (Get n ks) = noTable
 schemaOf (Lookup n i vs) = noTable
 schemaOf (Scan n) = noTable
 schemaOf Names = noTable
+schemaOf Open = noTable
+schemaOf Keep = noTable
+schemaOf Back = noTable
 
 abbrev pub tableOf : Read Request → Table
 tableOf r = schemaOf (gotOr Names r)
