@@ -16,7 +16,7 @@ use Rattle.values.proofs.Orders.{self, congʳ, ordValue}
 use Rattle.areas.proofs.Sorting.{keep-sorted, keep-length, in-keep, find-in}
 use Rattle.rules.specs.declared.profile.Profile.{Profile}
 use Rattle.rules.specs.State.{Name, Table, Row, State, ofTable, isRow, tableNamed, rowWith, rowsOf, keyOf, rowOf}
-use Rattle.rules.specs.Journal.{Event, absent, stood, put, unwound, roomy, Journal, lacks, Books, batchOf}
+use Rattle.rules.specs.Journal.{Event, absent, stood, put, unwound, roomy, Journal, lacks, Books, batchOf, withNotes}
 use Rattle.rules.specs.Request.{Request}
 use Rattle.rules.specs.Rows.{rowFault}
 use Rattle.rules.specs.Step.{added, removed, replaced, dropped, withoutRow, apply, applyAll, note, noteAll, changed, removals, after, runAfter}
@@ -102,8 +102,6 @@ roomy-append R (e ∷ es) fs rs =
     ∙ and-both-of (leb (length (put e (unwound es (unwound fs rs)))) R) (roomy R es (unwound fs rs)) (roomy R fs rs)
 
 -- a batch with more places
-abbrev pub withNotes : Journal → List Event → Option (List Event)
-withNotes j fs = Option·map (λ (es : List Event). es ++ fs) (j .batch)
 
 -- z comes from b by changes of rows: the schemas stay, and what is noted of the changes leads back
 pub record More (R : ℕ) (b z : Books) : Type 0 where

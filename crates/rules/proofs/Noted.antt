@@ -16,7 +16,7 @@ use Rattle.rules.specs.declared.answer.Refusal.{Refusal}
 use Rattle.rules.specs.declared.answer.Refusal.the-variants.{JournalFull, RowReferenced}
 use Rattle.rules.specs.Refusal.{numberOf}
 use Rattle.rules.specs.State.{Table, Row, tableNamed, rowWith, keyOf, rowOf}
-use Rattle.rules.specs.Journal.{Journal, isOpen, lacks, Books, batchOf}
+use Rattle.rules.specs.Journal.{Journal, isOpen, lacks, Books, batchOf, withNotes}
 use Rattle.rules.specs.Request.{Pair, Request, Create, Drop, Insert, Update, Delete, Get, Lookup, Scan, Names, Open, Keep, Back, entered, no, Carried, noCarrying, withGone}
 use Rattle.rules.specs.Schema.{first}
 use Rattle.rules.specs.Rows.{rowFault, rowReferenced}
@@ -25,11 +25,12 @@ use Rattle.rules.specs.Pages.{journalLength, journalImage}
 use Rattle.rules.proofs.Tests.{by-option, by-cond}
 use Rattle.rules.proofs.Turns.{in-turn-nil, in-turn-yes, in-turn-no}
 use Rattle.rules.proofs.Numbers.{orElse-some, putFault, rowNumbers, fault-only}
-use Rattle.rules.proofs.Backed.{withNotes, closed}
-use Rattle.rules.proofs.Outside.{shut, RowChange, notes, notes-length, notes-are, lacks-noted, shut-notes, shut-after, shut-lacks, not-lacking, removals-rows, Alike, Rowwise, insert-alike, insert-rowwise, pair-alike, rowwise-append, pair-rowwise, ofRows, as-outside}
+use Rattle.rules.proofs.Backed.{closed}
+use Rattle.rules.proofs.Outside.{RowChange, notes-length, notes-are, lacks-noted, shut-notes, shut-after, shut-lacks, not-lacking, removals-rows, Alike, Rowwise, insert-alike, insert-rowwise, pair-alike, rowwise-append, pair-rowwise, as-outside}
 use Rattle.rules.proofs.Refusals.{no-number}
 use Rattle.rules.proofs.Afterwards.{refused-whole, map-only, pairs-only}
 use Rattle.rules.specs.Refused.{oneOf}
+use Rattle.rules.specs.Batch.{shut, notes, ofRows}
 
 -- ---- a place for each row that is changed
 

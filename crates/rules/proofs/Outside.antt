@@ -15,7 +15,7 @@ use Rattle.rules.specs.declared.profile.Profile.{Profile}
 use Rattle.rules.specs.declared.answer.Refusal.{Refusal}
 use Rattle.rules.specs.declared.answer.Refusal.the-variants.{JournalFull, RowReferenced}
 use Rattle.rules.specs.State.{Name, Table, Row, tableNamed, rowWith, keyOf, rowOf}
-use Rattle.rules.specs.Journal.{Event, Journal, lacks, Books, batchOf}
+use Rattle.rules.specs.Journal.{Event, Journal, lacks, Books, batchOf, withNotes}
 use Rattle.rules.specs.Request.{Pair, Request, Create, Drop, Insert, Update, Delete, Get, Lookup, Scan, Names, Open, Keep, Back, no, Carried, noCarrying, withGone}
 use Rattle.rules.specs.Schema.{first}
 use Rattle.rules.specs.Rows.{rowFault, rowReferenced, fullRow}
@@ -23,11 +23,8 @@ use Rattle.rules.specs.Step.{Change, added, removed, replaced, withoutRo
 use Rattle.rules.proofs.Tests.{by-option, by-cond, none-first}
 use Rattle.rules.proofs.Cells.{row-passes}
 use Rattle.rules.proofs.Turns.{in-turn-nil, in-turn-yes, in-turn-no}
-use Rattle.rules.proofs.Backed.{has-place, place-had, withNotes, notes-twice}
-
--- no batch is open over the same store
-abbrev pub shut : Books → Books
-shut b = record { store = b .store; journal = batchOf (b .journal .places) none }
+use Rattle.rules.proofs.Backed.{has-place, place-had, notes-twice}
+use Rattle.rules.specs.Batch.{shut, notes, ofRows}
 
 -- ---- changes of rows: each is noted once, and where no batch is open nothing is
 
@@ -35,11 +32,6 @@ pub data RowChange : Change → Type 0 where
   by-added : (r : Row) → RowChange (added r)
   by-removed : (r : Row) → RowChange (removed r)
   by-replaced : (old new : Row) → RowChange (replaced old new)
-
--- what is noted of some changes
-unfoldable pub notes : List Change → List Event
-notes [] = []
-notes (c ∷ cs) = noted c ++ notes cs
 
 one-note : (c : Change) → RowChange c → length (noted c) ≡ 1
 one-note (added r) (by-added r′) = refl
@@ -279,21 +271,6 @@ pair-rowwise p R t b q =
     (λ g. by-option Rowwise _ _ _ (λ i. rowwise-append cs (added (rowOf t (q .row)) ∷ []) h (by-added (rowOf t (q .row)), tt)) (λ k i. h))
     (λ k g. tt))
     (λ x f. tt))
-
--- neither a schema nor a batch
-abbrev pub ofRows : Request → Bool
-ofRows (Create t) = false
-ofRows (Drop n x) = false
-ofRows (Insert n m rows) = true
-ofRows (Update n qs) = true
-ofRows (Delete n ks) = true
-ofRows (Get n ks) = true
-ofRows (Lookup n i vs) = true
-ofRows (Scan n) = true
-ofRows Names = true
-ofRows Open = false
-ofRows Keep = false
-ofRows Back = false
 
 module _ (p : Profile) (R : ℕ) (b : Books) where
   -- where an option stands before what differs

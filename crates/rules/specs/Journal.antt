@@ -2,8 +2,8 @@
 -- there again, from the last place to the first. Assumes nothing.
 use Prim.Native.Nat.{ℕ, _+_}
 use mathlib.Core.Bool.{Bool, true, false, not, _&&_}
-use mathlib.Core.List.{List, [], _∷_}
-use mathlib.Core.Option.{Option, none}
+use mathlib.Core.List.{List, [], _∷_, _++_}
+use mathlib.Core.Option.{Option, none, Option·map}
 use lib.Dec.{leb, ltb}
 use lib.ListN.{length}
 use Rattle.values.specs.Basic.{keep, maybe, isSome, insertBy}
@@ -62,6 +62,10 @@ batchOf n o = record { places = n; batch = o }
 
 abbrev pub isOpen : Journal → Bool
 isOpen j = isSome (j .batch)
+
+-- the places in use with some behind them, while a batch is open
+abbrev pub withNotes : Journal → List Event → Option (List Event)
+withNotes j fs = Option·map (λ (es : List Event). es ++ fs) (j .batch)
 
 -- 43: a batch is open and has not n more places
 unfoldable pub lacks : Journal → ℕ → Bool

@@ -9,6 +9,7 @@ pub mod Schema
 pub mod Rows
 pub mod Step
 pub mod Sound
+pub mod Batch
 pub mod Pages
 pub mod Readable
 pub mod Frame

@@ -12,7 +12,7 @@ use Rattle.rules.specs.declared.profile.Profile.{Profile}
 use Rattle.rules.specs.declared.answer.Refusal.{Refusal}
 use Rattle.rules.specs.declared.answer.Refusal.the-variants.{JournalFull, InsideBatch, BatchOutOfTurn, UnknownTable, TableExists, TablesFull, TableReferenced, MapColumn, RowReferenced, NotIndexed}
 use Rattle.rules.specs.Refusal.{numberOf}
-use Rattle.rules.specs.Journal.{Event, absent, stood, unwound, Journal, batchOf, isOpen, lacks, Books}
+use Rattle.rules.specs.Journal.{Event, absent, stood, unwound, Journal, batchOf, withNotes, isOpen, lacks, Books}
 use Rattle.rules.specs.State.{Name, Column, Table, Row, State, cmpTable, cmpRow, isNamed, tableNamed, ofTable, rowWith, rowsOf, cellAt, keyOf, rowOf}
 use Rattle.rules.specs.Request.{Pair, Request, Create, Drop, Insert, Update, Delete, Get, Lookup, Scan, Names, Open, Keep, Back, entered, Reply, ok, no, noCarrying, withGone}
 use Rattle.rules.specs.Schema.{first, Fault, at, schemaFault}
@@ -64,9 +64,9 @@ noted (takenBack rs) = []
 unfoldable pub note : Change → Journal → Journal
 note (created t) j = j
 note (dropped t) j = j
-note (added r) j = batchOf (j .places) (Option·map (λ (es : List Event). es ++ noted (added r)) (j .batch))
-note (removed r) j = batchOf (j .places) (Option·map (λ (es : List Event). es ++ noted (removed r)) (j .batch))
-note (replaced old new) j = batchOf (j .places) (Option·map (λ (es : List Event). es ++ noted (replaced old new)) (j .batch))
+note (added r) j = batchOf (j .places) (withNotes j (noted (added r)))
+note (removed r) j = batchOf (j .places) (withNotes j (noted (removed r)))
+note (replaced old new) j = batchOf (j .places) (withNotes j (noted (replaced old new)))
 note opened j = batchOf (j .places) (some [])
 note kept j = batchOf (j .places) none
 note (takenBack rs) j = batchOf (j .places) none
