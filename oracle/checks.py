@@ -3,10 +3,9 @@
 import os
 import struct
 
-from layout import NotSound, image, lent_state
+from layout import NotSound, lent_state
 from packed import read_list, read_number, text
-from runs import run
-from values import State
+from runs import fresh, left_bytes, run
 
 
 def check(list_file):
@@ -24,12 +23,12 @@ def stream_cases(list_file):
     """Lines, final bytes, and what refusals carry where the text says so."""
     carried = carried_of(list_file)
     with open(list_file, "rb") as f:
-        for case, (places, source, lines, store) in enumerate(read_list(f)):
-            state = State(places)
+        for case, (places, journal, source, lines, left) in enumerate(read_list(f)):
+            state = fresh(places, journal)
             got, notes = run(state, source)
             wanted = {r: what for (c, r), what in carried.items() if c == case}
             same = all(notes[r].split(" ", 1)[1] == what for r, what in wanted.items())
-            yield text(got) == lines and image(state) == store and same
+            yield text(got) == lines and left_bytes(state, journal) == left and same
 
 
 def carried_of(list_file):

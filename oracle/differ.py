@@ -74,7 +74,7 @@ def main(words):
         for streams, (stream, a, b) in enumerate(triples, 1):
             if None in (stream, a, b):
                 raise SystemExit("the files don't have as many streams as each other")
-            places, source = stream
+            places, _, source = stream
             tally.add(source, a[0])
             found = first_difference(source, a, b)
             if found:

@@ -12,9 +12,8 @@ import sys
 
 from inside import Inside
 from packed import packed, read_streams, text
-from runs import run
+from runs import fresh, run
 from tally import Tally
-from values import State
 from wild import Wild
 
 PLACES = [4, 6, 8, 8, 10, 12, 12, 16, 24, 40, 70]
@@ -50,8 +49,8 @@ def broken(seed, count):
 
 def print_tally(streams):
     tally = Tally()
-    for places, source in streams:
-        tally.add(source, text(run(State(places), source)[0]))
+    for places, journal, source in streams:
+        tally.add(source, text(run(fresh(places, journal), source)[0]))
     print("\n".join(tally.lines()))
 
 

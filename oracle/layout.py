@@ -118,6 +118,10 @@ def read_table(record):
     return Schema(read_name(record[:25]), key, tuple(columns))
 
 
+def read_row(schema, record):
+    return tuple(read_value(record[25 + 26 * i : 51 + 26 * i]) for i in range(len(schema.columns)))
+
+
 def read_state(store):
     """The schemas and rows that the bytes hold, if they are the image of any."""
     places, rest = divmod(len(store) - store_size(0), 779)
@@ -136,7 +140,7 @@ def read_state(store):
         schema = state.tables.get(name)
         if schema is None or schema.key >= len(schema.columns):
             raise NotSound
-        row = tuple(read_value(record[25 + 26 * i : 51 + 26 * i]) for i in range(len(schema.columns)))
+        row = read_row(schema, record)
         state.put_row(name, row[schema.key], row)
     # Contents fix the bytes: order, density, zeros, counts and index are tested at once.
     if image(state) != store:
@@ -147,17 +151,17 @@ def read_state(store):
 def lent_state(store):
     """The state of a sound store; NotSound for any other bytes."""
     state = read_state(bytes(store))
+    check_stored(state)
+    return state
+
+
+def check_stored(state):
+    """Schemas pass their rules against each other, and each row as an update to itself: 26, 28 to 31."""
     try:
         for schema in state.tables.values():
             check_schema(state, schema)
         for name, rows in state.rows.items():
-            for key in rows:
-                check_stored_row(state, state.tables[name], key)
+            for row in rows.values():
+                check_row(state, state.tables[name], row, 0, 0, same_key=True)
     except Refused:
         raise NotSound
-    return state
-
-
-def check_stored_row(state, schema, key):
-    """A stored row has to pass as an update to itself: 26, 28 to 31."""
-    check_row(state, schema, state.rows[schema.name][key], 0, 0, same_key=True)

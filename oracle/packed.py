@@ -15,9 +15,15 @@ def read_number(f):
     return struct.unpack(">I", f.read(4))[0]
 
 
+def stream(places, journal, source):
+    """A stream with R row places and J journal places; J is 0 where it has no batch."""
+    return struct.pack(">HH", journal, places) + packed(source)
+
+
 def read_streams(f):
     while head := f.read(4):
-        yield struct.unpack(">I", head)[0], f.read(read_number(f))
+        journal, places = struct.unpack(">HH", head)
+        yield places, journal, f.read(read_number(f))
 
 
 def read_answers(f):
@@ -27,5 +33,7 @@ def read_answers(f):
 
 
 def read_list(f):
-    for places, source in read_streams(f):
-        yield places, source, f.read(read_number(f)), f.read(read_number(f))
+    """R, J, records, lines, the store at the end and, where J is not 0, the journal."""
+    for places, journal, source in read_streams(f):
+        parts = [f.read(read_number(f)) for _ in range(3 if journal else 2)]
+        yield places, journal, source, parts[0], b"".join(parts[1:])

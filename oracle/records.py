@@ -1,4 +1,4 @@
-"""Document 01, "Requests": records read, an input cut into records, values printed."""
+"""Document 01, "Requests", and 02, T-06: records read, an input cut into records, values printed."""
 
 import struct
 
@@ -57,9 +57,15 @@ class Reader:
         reference = self.name() if flags & REFERENCES else None
         return Column(name, kind, flags, default, reference)
 
+    def operation(self):
+        number = self.byte(1, max(OPERATIONS))
+        if number not in OPERATIONS:
+            raise Broken(self.at - 1)
+        return OPERATIONS[number]
+
     def request(self):
         self.byte(1, 1)  # version
-        operation = OPERATIONS[self.byte(1, 9)]
+        operation = self.operation()
         operands = ()
         if operation == "create":
             name, key = self.name(), self.byte()
@@ -85,7 +91,8 @@ class Reader:
         return operation, operands
 
 
-OPERATIONS = " create drop insert update delete get lookup scan list".split(" ")
+OPERATIONS = dict(enumerate("create drop insert update delete get lookup scan list".split(), 1))
+OPERATIONS.update(enumerate("open keep back".split(), 12))
 
 
 def printed(value):

@@ -1,4 +1,4 @@
-"""Document 01, "Numbers of refusal" and "Rules of rows": the checks in their order, and a step for each operation."""
+"""Document 01, "Numbers of refusal" and "Rules of rows", and 02, T-06: the checks in their order, and a step for each operation."""
 
 from records import OPERATIONS, printed
 from values import INDEX, NULL, NULLABLE, TABLES, TEXT, UNIQUE, keys_holding, rank, undefined
@@ -13,6 +13,21 @@ def known(state, name):
     if name not in state.tables:
         raise Refused(2)
     return state.tables[name]
+
+
+def need_places(state, count, at=0, gone=0):
+    if state.lacks(count):
+        raise Refused(43, at, gone)
+
+
+def outside_batch(state):
+    if state.batch is not None:
+        raise Refused(44)
+
+
+def in_turn(state, is_open):
+    if (state.batch is not None) != is_open:
+        raise Refused(45)
 
 
 def check_schema(state, schema):
@@ -83,6 +98,7 @@ def add_row(state, schema, row, at, gone=0):
     if state.row_count() == state.places:
         raise Refused(33, at, gone)
     # An index place is never missing: a row has at most 7 indexed columns and the store 7R places.
+    need_places(state, 1, at, gone)
     state.put_row(schema.name, row[schema.key], row)
 
 
@@ -127,6 +143,7 @@ def mapped(schema, mapping, values, at):
 
 
 def create(state, schema):
+    outside_batch(state)
     if schema.name in state.tables:
         raise Refused(3)
     check_schema(state, schema)
@@ -137,6 +154,7 @@ def create(state, schema):
 
 
 def drop(state, name, if_exists):
+    outside_batch(state)
     if if_exists and name not in state.tables:
         return [], 0
     known(state, name)
@@ -177,9 +195,11 @@ def update_pair(state, schema, old, row, at):
         check_row(state, schema, row, at, 0, same_key=True)
         if old not in state.rows[schema.name]:
             raise Refused(34, at)
+        need_places(state, 1, at)
         state.put_row(schema.name, old, row)
     else:  # a delete of the old key, then an insert
         check_unreferenced(state, schema, (old,), at)
+        need_places(state, int(old in state.rows[schema.name]), at)
         gone = state.remove_row(schema.name, old)
         add_row(state, schema, row, at, int(gone))
 
@@ -187,6 +207,7 @@ def update_pair(state, schema, old, row, at):
 def delete(state, name, keys):
     schema = known(state, name)
     check_unreferenced(state, schema, keys, 0)
+    need_places(state, len({key for key in keys if key in state.rows[name]}))
     for key in keys:
         state.remove_row(name, key)
     return [], len(keys)
@@ -215,4 +236,25 @@ def list_tables(state):
     return [((TEXT, name),) for name in sorted(state.tables)], len(state.tables)
 
 
-STEPS = dict(zip(OPERATIONS[1:], (create, drop, insert, update, delete, get, lookup, scan, list_tables)))
+def open_batch(state):
+    in_turn(state, is_open=False)
+    state.batch = []
+    return [], 0
+
+
+def keep_batch(state):
+    in_turn(state, is_open=True)
+    state.batch = None
+    return [], 0
+
+
+def take_back(state):
+    in_turn(state, is_open=True)
+    list(state.put_back())
+    return [], 0
+
+
+WRITES = create, drop, insert, update, delete
+READS = get, lookup, scan, list_tables
+BATCHES = open_batch, keep_batch, take_back
+STEPS = dict(zip(OPERATIONS.values(), WRITES + READS + BATCHES))

@@ -1,10 +1,12 @@
-"""Records answered: one, many, and many over a lent store."""
+"""Records answered: one, many, and many over a lent store and its journal."""
 
 import zlib
 
+from journal import journal_image, journal_size, lend_journal
 from layout import NotSound, image, lent_state
 from records import Broken, Reader, printed, records
 from rules import STEPS, Refused
+from values import JOURNAL_MOST, State
 
 
 def answer(state, record):
@@ -30,11 +32,27 @@ def run(state, source):
     return lines, notes
 
 
-def answer_lent(store, source):
-    """Lines and bytes of a run over a lent store, tested once."""
+def fresh(places, journal):
+    """A fresh state for a stream; one that says no J gets the programs' own."""
+    return State(places, journal or JOURNAL_MOST)
+
+
+def left_bytes(state, journal):
+    """The store's bytes and, where the stream says J, the journal's behind them."""
+    return image(state) + (journal_image(state) if journal else b"")
+
+
+def answer_both(store, journal, source):
+    """Lines and the bytes of both after a run over a lent store and its journal, tested once."""
     try:
         state = lent_state(store)
+        lend_journal(state, journal)
     except NotSound:
-        return ["no 38 0 0"], store
+        return ["no 38 0 0"], store, journal
     lines, _ = run(state, source)
-    return lines, image(state)
+    return lines, image(state), journal_image(state)
+
+
+def answer_lent(store, source):
+    """Lines and bytes of a run over a lent store beside a new journal."""
+    return answer_both(store, bytes(journal_size(JOURNAL_MOST)), source)[:2]

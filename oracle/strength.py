@@ -19,7 +19,7 @@ from packed import read_answers
 
 HERE = os.path.dirname(os.path.abspath(__file__))
 LISTS = ["../crates/replay/data/rust", "../crates/replay/data/paper", "lists/lent"]
-PARTS = ["model.py", "values.py", "layout.py", "records.py", "rules.py", "runs.py", "packed.py", "checks.py"]
+PARTS = ["model.py", "values.py", "layout.py", "journal.py", "records.py", "rules.py", "runs.py", "packed.py", "checks.py"]
 
 
 def written_changes():

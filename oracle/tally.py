@@ -16,8 +16,7 @@ def by_request(lines):
 
 
 def operation(record):
-    known = record is not None and record[0] == 1 and 1 <= record[1] <= 9
-    return OPERATIONS[record[1]] if known else "none"
+    return OPERATIONS.get(record[1], "none") if record is not None and record[0] == 1 else "none"
 
 
 class Tally:

@@ -1,4 +1,4 @@
-"""Document 01, "Values and sizes": values, their order, schemas, and the state they make."""
+"""Document 01, "Values and sizes": values, their order, schemas, and the state they make, with the places of an open batch (02, T-06)."""
 
 from collections import namedtuple
 
@@ -10,6 +10,7 @@ NAN = (FLOAT, NAN_BITS)
 # Contents are normalised on entry, so Python's == is the document's "equal".
 
 TABLES, COLUMNS = 16, 8
+JOURNAL_MOST = 8192  # journal places; the programs' own journals have as many
 NULLABLE, DEFAULT, UNIQUE, INDEX, REFERENCES = 1, 2, 4, 8, 16
 
 Schema = namedtuple("Schema", "name key columns")
@@ -42,16 +43,22 @@ def store_size(places):
 
 
 class State:
-    """Schemas by name, and for each name its rows by key. Every change passes through here."""
+    """Schemas by name, and for each name its rows by key. Every change passes through here.
 
-    def __init__(self, places):
+    While a batch is open each row added, replaced or removed notes what stood at its key: (name, key, row), the row None where nothing did.
+    """
+
+    def __init__(self, places, journal=JOURNAL_MOST):
         self.places = places  # R
+        self.journal = journal  # J
+        self.batch = None  # the journal places in use, while a batch is open
         self.tables = {}
         self.rows = {}
         self.bytes = None  # the image, while it is known
 
     def copy(self):
-        other = State(self.places)
+        other = State(self.places, self.journal)
+        other.batch = None if self.batch is None else list(self.batch)
         other.tables = dict(self.tables)
         other.rows = {name: dict(rows) for name, rows in self.rows.items()}
         other.bytes = self.bytes
@@ -67,16 +74,39 @@ class State:
         self.bytes = None
 
     def put_row(self, name, key, row):
-        self.rows[name][key] = row
-        self.bytes = None
+        self.note(name, key)
+        self.stand(name, key, row)
 
     def remove_row(self, name, key):
         """Whether there was one."""
         if key not in self.rows[name]:
             return False
-        del self.rows[name][key]
-        self.bytes = None
+        self.note(name, key)
+        self.stand(name, key, None)
         return True
+
+    def stand(self, name, key, row):
+        """This row stands at the key, or none."""
+        if row is None:
+            self.rows[name].pop(key, None)
+        else:
+            self.rows[name][key] = row
+        self.bytes = None
+
+    def note(self, name, key):
+        if self.batch is not None:
+            self.batch.append((name, key, self.rows[name].get(key)))
+
+    def lacks(self, count):
+        """Whether a batch is open and has not so many more places."""
+        return self.batch is not None and len(self.batch) + count > self.journal
+
+    def put_back(self):
+        """From the last place to the first, what stood at the key stands there again; after each how many rows there are."""
+        for name, key, row in reversed(self.batch):
+            self.stand(name, key, row)
+            yield self.row_count()
+        self.batch = None
 
     def row_count(self):
         return sum(map(len, self.rows.values()))

@@ -5,6 +5,8 @@ import struct
 from records import OPERATIONS
 from values import BOOLEAN, DEFAULT, FLOAT, INTEGER, REFERENCES, TEXT
 
+NUMBERS = {operation: number for number, operation in OPERATIONS.items()}
+
 
 def name(n):
     return bytes([len(n)]) + n
@@ -42,7 +44,7 @@ def column(c):
 
 def body(operation, operands):
     """Version byte, operation and operands."""
-    head = bytes([1, OPERATIONS.index(operation)])
+    head = bytes([1, NUMBERS[operation]])
     if operation == "create":
         (schema,) = operands
         return head + name(schema.name) + bytes([schema.key]) + counted([column(c) for c in schema.columns])
