@@ -8,7 +8,7 @@ from values import (
 )
 from writer import record
 
-Case = namedtuple("Case", "words places source lines carries")
+Case = namedtuple("Case", "words places journal source lines carries")
 KINDS = {"boolean": BOOLEAN, "integer": INTEGER, "float": FLOAT, "text": TEXT}
 NOTHING = object()
 
@@ -86,14 +86,17 @@ def list_tables():
     return record("list")
 
 
+OPEN, KEEP, BACK = record("open"), record("keep"), record("back")
+
+
 def raw(*parts):
     """A record of these bytes, with its length."""
     body = b"".join(bytes([p]) if isinstance(p, int) else p for p in parts)
     return struct.pack(">H", len(body)) + body
 
 
-def case(words, places, *steps):
-    """Steps are bytes, each followed by its lines in one string, and maybe by what is carried in brackets."""
+def case(words, places, *steps, journal=0):
+    """Steps are bytes, each followed by its lines in one string, and maybe by what is carried in brackets. A journal has J places."""
     source, lines, carries, request = b"", [], {}, -1
     for step in steps:
         if isinstance(step, bytes):
@@ -102,4 +105,4 @@ def case(words, places, *steps):
             carries[request] = step[0]
         else:
             lines += [line.strip() for line in step.split(";")]
-    return Case(words, places, source, "".join(line + "\n" for line in lines).encode(), carries)
+    return Case(words, places, journal, source, "".join(line + "\n" for line in lines).encode(), carries)

@@ -3,6 +3,7 @@
 
   record.py rust ORACLE     rust.list: the Rust's answers inside the domain
   record.py paper           paper.list: document 01's answers to what the Rust can't say
+  record.py batch           batch.list: answers to batches (02, T-06)
 
 rust.list has the cases of by_hand_inside.py and by_hand_places.py, and generated streams, chosen
 so that every operation, code, AT and GONE comes several times. Answers and bytes are the oracle's; a case
@@ -10,22 +11,21 @@ where hand, model and oracle don't agree is not recorded, but reported.
 """
 
 import os
-import struct
 import subprocess
 import sys
 import tempfile
 from collections import Counter
 
+import by_hand_batch
 import by_hand_inside
 import by_hand_paper
 import by_hand_places
 from generate import inside
-from layout import image
-from packed import packed, read_answers, text
+from packed import packed, read_answers, stream, text
 from records import records
-from runs import run
+from runs import fresh, left_bytes, run
 from tally import by_request, operation
-from values import State
+from values import store_size
 
 HERE = os.path.dirname(os.path.abspath(__file__))
 LISTS = os.path.join(HERE, "..", "crates", "replay", "data")  # where the program that replays them looks
@@ -37,16 +37,16 @@ def rust_answers(oracle, streams):
     """The oracle's lines, notes and bytes for pairs of R and records."""
     with tempfile.TemporaryDirectory() as work:
         with open(os.path.join(work, "streams"), "wb") as f:
-            f.write(b"".join(struct.pack(">I", places) + packed(source) for places, source in streams))
+            f.write(b"".join(stream(places, 0, source) for places, source in streams))
         subprocess.run([oracle, f.name, os.path.join(work, "answers")], check=True)
         with open(os.path.join(work, "answers"), "rb") as f:
             return list(read_answers(f))
 
 
-def model_answers(places, source):
-    state = State(places)
+def model_answers(places, source, journal=0):
+    state = fresh(places, journal)
     lines, notes = run(state, source)
-    return text(lines), text(notes), image(state)
+    return text(lines), text(notes), left_bytes(state, journal)
 
 
 def met(source, lines):
@@ -90,12 +90,14 @@ def carried(notes):
 
 
 def write(name, cases):
-    """Cases are (words, R, records, lines, notes, bytes)."""
+    """Cases are (words, R, J, records, lines, notes, bytes)."""
     with open(os.path.join(LISTS, name + ".list"), "wb") as f, open(os.path.join(LISTS, name + ".txt"), "w") as t:
-        for number, (words, places, source, lines, notes, store) in enumerate(cases):
-            f.write(struct.pack(">I", places) + packed(source) + packed(lines) + packed(store))
+        for number, (words, places, journal, source, lines, notes, left) in enumerate(cases):
+            size = store_size(places)
+            f.write(stream(places, journal, source) + packed(lines) + packed(left[:size]) + (packed(left[size:]) if journal else b""))
             carries = "".join(" | %d: %s" % item for item in carried(notes).items())
-            t.write("%d (R = %d) %s%s\n" % (number, places, words, carries))
+            sizes = "R = %d, J = %d" % (places, journal) if journal else "R = %d" % places
+            t.write("%d (%s) %s%s\n" % (number, sizes, words, carries))
         print("%s.list: %d cases, %d bytes" % (name, len(cases), f.tell()))
 
 
@@ -126,25 +128,27 @@ def record_rust(oracle):
         by_hand = hand[i] if i < len(hand) else None
         words = by_hand.words if by_hand else words_of(places, source, answers[i][0])
         agree(words, by_hand, answers[i], model_answers(places, source))
-        cases.append((words, places, source, *answers[i]))
+        cases.append((words, places, 0, source, *answers[i]))
     write("rust", cases)
     for what, times in sorted(have.items()):
         print("  %4d %s" % (times, " ".join(what)))
 
 
-def record_paper():
+def record_by_hand(name, hand):
     cases = []
-    for c in by_hand_paper.CASES:
-        answer = model_answers(c.places, c.source)
+    for c in hand:
+        answer = model_answers(c.places, c.source, c.journal)
         agree(c.words, c, answer, answer)
-        cases.append((c.words, c.places, c.source, *answer))
-    write("paper", cases)
+        cases.append((c.words, c.places, c.journal, c.source, *answer))
+    write(name, cases)
 
 
 def main(words):
     os.makedirs(LISTS, exist_ok=True)
     if words == ["paper"]:
-        record_paper()
+        record_by_hand("paper", by_hand_paper.CASES)
+    elif words == ["batch"]:
+        record_by_hand("batch", by_hand_batch.CASES)
     elif len(words) == 2 and words[0] == "rust":
         record_rust(words[1])
     else:
