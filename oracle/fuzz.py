@@ -11,13 +11,12 @@ bytes are changed: each must be refused and left as it is, or be sound and answe
 
 import os
 import random
-import struct
 import sys
 import tempfile
 
 from generate import broken, inside
 from layout import NotSound, image, lent_state
-from packed import packed, text
+from packed import packed, stream, text
 from programs import kiosk, kiosk_in_pieces, lent
 from records import records
 from runs import answer
@@ -83,7 +82,7 @@ def write_list(file):
             state = State(places)
             lines = lines_of(state, source)
             if places < 9 and len(source) < 60000 and len(lines) < 60000:
-                f.write(struct.pack(">I", places) + packed(source) + packed(lines) + packed(image(state)))
+                f.write(stream(places, 0, source) + packed(lines) + packed(image(state)))
                 cases += 1
     print("%s: %d cases" % (os.path.basename(file), cases))
 

@@ -3,21 +3,24 @@
 
   generate.py inside SEED COUNT [R] > STREAMS    at least COUNT requests inside the domain, with R row places if said
   generate.py broken SEED COUNT > STREAMS        outside the domain, and broken records
+  generate.py batches SEED COUNT [R] > STREAMS   inside the domain, with batches and as many journal places as they need
+  generate.py tight SEED COUNT > STREAMS         as broken, with batches and few journal places
   generate.py --tally STREAMS                    how often each operation, code, AT and GONE comes
 """
 
 import random
-import struct
 import sys
 
+from batched import InsideBatches, TightBatches
 from inside import Inside
-from packed import packed, read_streams, text
+from packed import read_streams, stream, text
 from runs import fresh, run
 from tally import Tally
 from wild import Wild
 
 PLACES = [4, 6, 8, 8, 10, 12, 12, 16, 24, 40, 70]
 NARROW = [1, 2, 3, 4, 5, 6, 8, 12, 20, 70]
+JOURNALS = [1, 2, 3, 4, 5, 6, 8, 12, 20, 70]
 
 
 def inside(seed, count, fixed=None):
@@ -47,6 +50,32 @@ def broken(seed, count):
         yield stream.state.places, b"".join(found) + stream.ending()
 
 
+def batches(seed, count, fixed=None):
+    """R, J and records; no batch is open at the end."""
+    seen, made, number = {}, 0, 0
+    while made < count:
+        rng = random.Random("batches %d %d" % (seed, number))
+        stream = InsideBatches(rng, fixed or rng.choice(PLACES), seen)
+        wanted = [stream.request() for _ in range(rng.randrange(30, 110))]
+        if stream.state.batch is not None:
+            wanted.append(stream.end())
+        found = [data for data in wanted if data is not None]
+        made, number = made + len(found), number + 1
+        yield stream.state.places, max(1, stream.most), b"".join(found)
+
+
+def tight(seed, count):
+    """R, J and records, some of them broken; a batch may be open at the end."""
+    seen, made, number = {}, 0, 0
+    while made < count:
+        rng = random.Random("tight %d %d" % (seed, number))
+        stream = TightBatches(rng, rng.choice(NARROW), rng.choice(JOURNALS), seen)
+        wanted = [stream.request() for _ in range(rng.randrange(20, 90))]
+        found = [data for data in wanted if data is not None]
+        made, number = made + len(found), number + 1
+        yield stream.state.places, stream.state.journal, b"".join(found) + stream.ending()
+
+
 def print_tally(streams):
     tally = Tally()
     for places, journal, source in streams:
@@ -58,16 +87,16 @@ def main(words):
     if len(words) == 2 and words[0] == "--tally":
         with open(words[1], "rb") as f:
             print_tally(read_streams(f))
-    elif len(words) == 3 and words[0] in MAKERS or len(words) == 4 and words[0] == "inside":
-        for places, source in MAKERS[words[0]](*[int(word) for word in words[1:]]):
-            sys.stdout.buffer.write(struct.pack(">I", places) + packed(source))
+    elif len(words) == 3 and words[0] in MAKERS or len(words) == 4 and words[0] in ("inside", "batches"):
+        for places, *journal, source in MAKERS[words[0]](*[int(word) for word in words[1:]]):
+            sys.stdout.buffer.write(stream(places, *(journal or [0]), source))
     else:
         print(__doc__, file=sys.stderr)
         return 2
     return 0
 
 
-MAKERS = {"inside": inside, "broken": broken}
+MAKERS = {"inside": inside, "broken": broken, "batches": batches, "tight": tight}
 
 if __name__ == "__main__":
     sys.exit(main(sys.argv[1:]))

@@ -11,9 +11,7 @@ where hand, model and oracle don't agree is not recorded, but reported.
 """
 
 import os
-import subprocess
 import sys
-import tempfile
 from collections import Counter
 
 import by_hand_batch
@@ -21,9 +19,10 @@ import by_hand_inside
 import by_hand_paper
 import by_hand_places
 from generate import inside
-from packed import packed, read_answers, stream, text
+from packed import packed, stream, text
 from records import records
 from runs import fresh, left_bytes, run
+from rust import rust_answers
 from tally import by_request, operation
 from values import store_size
 
@@ -31,16 +30,6 @@ HERE = os.path.dirname(os.path.abspath(__file__))
 LISTS = os.path.join(HERE, "..", "crates", "replay", "data")  # where the program that replays them looks
 SEED, REQUESTS = 20011, 60000  # where the generated streams come from
 CASES, WIDE, WANTED = 60, 2, 6  # cases in all, of them generated with R = 70, how often each answer should come
-
-
-def rust_answers(oracle, streams):
-    """The oracle's lines, notes and bytes for pairs of R and records."""
-    with tempfile.TemporaryDirectory() as work:
-        with open(os.path.join(work, "streams"), "wb") as f:
-            f.write(b"".join(stream(places, 0, source) for places, source in streams))
-        subprocess.run([oracle, f.name, os.path.join(work, "answers")], check=True)
-        with open(os.path.join(work, "answers"), "rb") as f:
-            return list(read_answers(f))
 
 
 def model_answers(places, source, journal=0):

@@ -58,7 +58,7 @@ class Reader:
         return Column(name, kind, flags, default, reference)
 
     def operation(self):
-        number = self.byte(1, max(OPERATIONS))
+        number = self.byte()
         if number not in OPERATIONS:
             raise Broken(self.at - 1)
         return OPERATIONS[number]

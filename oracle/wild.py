@@ -174,6 +174,10 @@ class Watch(Reader):
             self.limits.append((self.at, low, high))
         return super().byte(low, high)
 
+    def operation(self):
+        self.limits.append((self.at, 1, 9))  # 10 is none
+        return super().operation()
+
 
 def limited_bytes(body):
     watch = Watch(body)
