@@ -5,12 +5,12 @@ import struct
 
 from layout import NotSound, lent_state
 from packed import read_list, read_number, text
-from runs import fresh, left_bytes, run
+from runs import answer_both, fresh, left_bytes, run
 
 
 def check(list_file):
     """Says how many cases passed; whether all did."""
-    cases = lent_cases if os.path.basename(list_file) == "lent.list" else stream_cases
+    cases = {"lent.list": lent_cases, "journals.list": journal_cases}.get(os.path.basename(list_file), stream_cases)
     results = list(cases(list_file))
     for case, good in enumerate(results):
         if not good:
@@ -48,11 +48,38 @@ def lent_cases(list_file):
     with open(list_file, "rb") as f:
         base = f.read(read_number(f))
         while head := f.read(4):
-            store = bytearray(base)
-            for _ in range(struct.unpack(">I", head)[0]):
-                at, byte = struct.unpack(">IB", f.read(5))
-                store[at] = byte
+            store = changed(base, f, struct.unpack(">I", head)[0])
             yield sound(store) == f.read(1)[0]
+
+
+def changed(base, f, count):
+    """The bytes with the changes that stand in a list."""
+    data = bytearray(base)
+    for _ in range(count):
+        at, byte = struct.unpack(">IB", f.read(5))
+        data[at] = byte
+    return bytes(data)
+
+
+def journal_cases(list_file):
+    """What a taking back says and leaves, or 38 and both as they were."""
+    with open(list_file, "rb") as f:
+        while head := f.read(4):
+            store, journal = f.read(struct.unpack(">I", head)[0]), f.read(read_number(f))
+            for _ in range(read_number(f)):
+                yield journal_case(f, store, journal)
+
+
+def journal_case(f, store, journal):
+    lent = changed(store, f, read_number(f))
+    size = read_number(f)
+    beside = changed(journal[:size].ljust(size, b"\0"), f, read_number(f))
+    if f.read(1) == b"\0":
+        wanted = ["no 38 0 0"], lent, beside
+    else:
+        said = "ok 0" if beside[0] else "no 45 0 0"
+        wanted = [said], changed(store, f, read_number(f)), bytes(size)
+    return answer_both(lent, beside, b"\0\2\1\x0e") == wanted
 
 
 def sound(store):

@@ -18,7 +18,8 @@ import tempfile
 from packed import read_answers
 
 HERE = os.path.dirname(os.path.abspath(__file__))
-LISTS = ["../crates/replay/data/rust", "../crates/replay/data/paper", "lists/lent"]
+REPLAYED = ["../crates/replay/data/" + name for name in ("rust", "paper", "batch")]
+LISTS = REPLAYED + ["lists/lent", "lists/journals"]
 PARTS = ["model.py", "values.py", "layout.py", "journal.py", "records.py", "rules.py", "runs.py", "packed.py", "checks.py"]
 
 
@@ -110,10 +111,11 @@ def main(words):
     seed, count = words + ["1", "20000"][len(words) :]
     missed = 0
     with tempfile.TemporaryDirectory() as work:
-        sources = {kind: generated(work, kind, seed, count) for kind in ("inside", "broken")}
+        sources = {kind: generated(work, kind, seed, count) for kind in ("inside", "broken", "tight")}
         print("Streams that differ, by lines / bytes / what is carried; then failing cases of the lists. Seed %s, %s." % (
             seed, ", ".join("%s: %d streams" % (kind, len(right)) for kind, (_, right) in sources.items())))
-        print("%-70s %-14s %-14s %s" % ("change", "inside", "broken", "/".join(os.path.basename(name) for name in LISTS)))
+        line = "%-70s" + " %-14s" * len(sources) + " %s"
+        print(line % ("change", *sources, "/".join(os.path.basename(name) for name in LISTS)))
         changes = [*written_changes(), *refusals_left_out()]
         for name, file, was, becomes in changes:
             folder = copied_model(work)
@@ -126,7 +128,7 @@ def main(words):
                 row.append("stops" if stopped else "/".join(map(str, seen)) if any(seen) else "-")
             shutil.rmtree(folder)
             missed += not noticed
-            print("%-70s %-14s %-14s %s%s" % (name, *row, lists, "" if noticed else "  NOT NOTICED"), flush=True)
+            print(line % (name, *row, lists + ("" if noticed else "  NOT NOTICED")), flush=True)
         print("%d changes, %d not noticed" % (len(changes), missed))
     return 1 if missed else 0
 
