@@ -44,18 +44,30 @@ def kiosk_in_pieces(source, size):
     return lines[0]
 
 
-def lent(store, source, folder):
-    """The lines of records over a lent store, and its bytes afterwards. Where it is refused no third file is written: those it had."""
-    names = [os.path.join(folder, name) for name in ("store", "records", "after")]
-    for name, data in zip(names, (store, source)):
-        with open(name, "wb") as f:
-            f.write(data)
-    if os.path.exists(names[2]):
-        os.remove(names[2])
+def lent(store, journal, source, folder):
+    """The lines of records over a lent store and its journal, and the bytes of both afterwards: those they had where they are refused and nothing is written."""
+    names = [os.path.join(folder, name) for name in ("store", "journal", "records", "store.after", "journal.after")]
+    for name, data in zip(names, (store, journal, source)):
+        write(name, data)
+    for name in names[3:]:
+        if os.path.exists(name):
+            os.remove(name)
     done = subprocess.run(command("lent") + names, stdout=subprocess.PIPE, stderr=subprocess.PIPE, check=True, timeout=600)
-    if done.stdout == b"no 38 0 0\n" and not os.path.exists(names[2]):
-        return done.stdout, store
-    if done.stderr:
-        raise RuntimeError(done.stderr.decode(errors="replace"))
-    with open(names[2], "rb") as f:
-        return done.stdout, f.read()
+    if [read(name) for name in names[:3]] != [store, journal, source]:
+        raise RuntimeError("lent changed a file that it was to read")
+    written = [os.path.exists(name) for name in names[3:]]
+    if done.stdout == b"no 38 0 0\n" and not any(written):
+        return done.stdout, store, journal
+    if done.stderr or not all(written):
+        raise RuntimeError(done.stderr.decode(errors="replace") or "lent wrote one file of two")
+    return done.stdout, read(names[3]), read(names[4])
+
+
+def write(name, data):
+    with open(name, "wb") as f:
+        f.write(data)
+
+
+def read(name):
+    with open(name, "rb") as f:
+        return f.read()

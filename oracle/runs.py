@@ -33,8 +33,8 @@ def run(state, source):
 
 
 def fresh(places, journal):
-    """A fresh state for a stream; one that says no J gets the programs' own."""
-    return State(places, journal or JOURNAL_MOST)
+    """A fresh state for a stream; one that says no J has no batch, and gets one place."""
+    return State(places, journal or 1)
 
 
 def left_bytes(state, journal):
