@@ -23,57 +23,63 @@ NARROW = [1, 2, 3, 4, 5, 6, 8, 12, 20, 70]
 JOURNALS = [1, 2, 3, 4, 5, 6, 8, 12, 20, 70]
 
 
+def made(kind, seed, count, start):
+    """Streams with so many requests in all. `start` gives a stream in the making and its requests, None for one that was not found."""
+    seen, done, number = {}, 0, 0
+    while done < count:
+        stream, wanted = start(random.Random("%s %d %d" % (kind, seed, number)), seen)
+        found = [data for data in wanted if data is not None]
+        done, number = done + len(found), number + 1
+        yield stream, b"".join(found)
+
+
 def inside(seed, count, fixed=None):
     """Pairs of R and records."""
-    seen, made, number = {}, 0, 0
-    while made < count:
-        rng = random.Random("inside %d %d" % (seed, number))
+
+    def start(rng, seen):
         stream = Inside(rng, fixed or rng.choice(PLACES), seen)
-        wanted = [stream.request() for _ in range(rng.randrange(20, 90))]
-        found = [data for data in wanted if data is not None]
-        made, number = made + len(found), number + 1
-        yield stream.state.places, b"".join(found)
+        return stream, [stream.request() for _ in range(rng.randrange(20, 90))]
+
+    for stream, source in made("inside", seed, count, start):
+        yield stream.state.places, source
 
 
 def broken(seed, count):
     """Pairs of R and records, some of them broken."""
-    seen, made, number = {}, 0, 0
-    while made < count:
-        rng = random.Random("broken %d %d" % (seed, number))
+
+    def start(rng, seen):
         stream = Wild(rng, rng.choice(NARROW), seen)
-        found = []
-        for _ in range(rng.randrange(20, 90)):
-            data = stream.bad_length() if rng.random() < 0.02 else stream.request()
-            if data is not None:
-                found.append(data)
-        made, number = made + len(found), number + 1
-        yield stream.state.places, b"".join(found) + stream.ending()
+        return stream, some_bad_lengths(rng, stream)
+
+    for stream, source in made("broken", seed, count, start):
+        yield stream.state.places, source + stream.ending()
+
+
+def some_bad_lengths(rng, stream):
+    return [stream.bad_length() if rng.random() < 0.02 else stream.request() for _ in range(rng.randrange(20, 90))]
 
 
 def batches(seed, count, fixed=None):
     """R, J and records; no batch is open at the end."""
-    seen, made, number = {}, 0, 0
-    while made < count:
-        rng = random.Random("batches %d %d" % (seed, number))
+
+    def start(rng, seen):
         stream = InsideBatches(rng, fixed or rng.choice(PLACES), seen)
         wanted = [stream.request() for _ in range(rng.randrange(30, 110))]
-        if stream.state.batch is not None:
-            wanted.append(stream.end())
-        found = [data for data in wanted if data is not None]
-        made, number = made + len(found), number + 1
-        yield stream.state.places, max(1, stream.most), b"".join(found)
+        return stream, wanted + [stream.end()] if stream.state.batch is not None else wanted
+
+    for stream, source in made("batches", seed, count, start):
+        yield stream.state.places, max(1, stream.most), source
 
 
 def tight(seed, count):
     """R, J and records, some of them broken; a batch may be open at the end."""
-    seen, made, number = {}, 0, 0
-    while made < count:
-        rng = random.Random("tight %d %d" % (seed, number))
+
+    def start(rng, seen):
         stream = TightBatches(rng, rng.choice(NARROW), rng.choice(JOURNALS), seen)
-        wanted = [stream.request() for _ in range(rng.randrange(20, 90))]
-        found = [data for data in wanted if data is not None]
-        made, number = made + len(found), number + 1
-        yield stream.state.places, stream.state.journal, b"".join(found) + stream.ending()
+        return stream, some_bad_lengths(rng, stream)
+
+    for stream, source in made("tight", seed, count, start):
+        yield stream.state.places, stream.state.journal, source + stream.ending()
 
 
 def print_tally(streams):
