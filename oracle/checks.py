@@ -7,6 +7,8 @@ from layout import NotSound, lent_state
 from packed import read_list, read_number, text
 from runs import answer_both, fresh, left_bytes, run
 
+BACK = b"\0\2\1\x0e"  # operation 14 as a record
+
 
 def check(list_file):
     """Says how many cases passed; whether all did."""
@@ -79,7 +81,7 @@ def journal_case(f, store, journal):
     else:
         said = "ok 0" if beside[0] else "no 45 0 0"
         wanted = [said], changed(store, f, read_number(f)), bytes(size)
-    return answer_both(lent, beside, b"\0\2\1\x0e") == wanted
+    return answer_both(lent, beside, BACK) == wanted
 
 
 def sound(store):

@@ -14,6 +14,7 @@ import sys
 import tempfile
 
 from cases import column, key, name, value, values
+from journal import journal_size
 from layout import image
 from programs import command
 from values import Schema, State
@@ -54,8 +55,8 @@ def requests(plans, points):
 
 
 def instructions(store, source, folder):
-    names = [os.path.join(folder, part) for part in ("store", "records", "after")]
-    for file, data in zip(names, (store, source)):
+    names = [os.path.join(folder, part) for part in ("store", "journal", "records", "store.after", "journal.after")]
+    for file, data in zip(names, (store, bytes(journal_size(1)), source)):
         with open(file, "wb") as f:
             f.write(data)
     words = ["valgrind", "--tool=callgrind", "--main-stacksize=33554432", "--callgrind-out-file=" + os.path.join(folder, "out")]
