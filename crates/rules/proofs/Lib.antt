@@ -18,7 +18,6 @@ pub mod Batches
 pub mod Paged
 pub mod Outside
 pub mod Cases
-pub mod BatchCase
 pub mod Frame
 pub mod Demand
 pub mod EachTurn

@@ -19,3 +19,4 @@ pub mod Stops
 pub mod Ascii
 pub mod Sheet
 pub mod Order
+pub mod BatchSheet

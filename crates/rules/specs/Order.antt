@@ -2,16 +2,16 @@
 -- the number that is asked first is told, with its AT. Behind a line stand the others that it breaks. No line changes the store.
 -- Assumes nothing.
 use Prim.Native.Nat.{ℕ}
-use mathlib.Core.Bool.{false}
+use mathlib.Core.Bool.{true, false}
 use mathlib.Core.List.{List, [], _∷_, _++_, map}
 use mathlib.Core.Option.{Option, none, some}
 use Rattle.values.specs.Value.{Value, null, float, text}
 use Rattle.rules.specs.declared.answer.Refusal.{Refusal}
-use Rattle.rules.specs.declared.answer.Refusal.the-variants.{UnknownTable, TableExists, EmptyTableName, NoColumns, KeyColumnOutOfRange, EmptyColumnName, KeyNullable, KeyNotUnique, KeyIndexed, NullableWithoutDefault, NullDefault, DefaultKind, UniqueNotIndexed, ReferenceNotIndexed, UnknownTarget, TargetKind, ColumnTwice, TablesFull, TooManyValues, MapCount, NoDefault, MapColumn, RowSize, KeyUndefined, KeyExists, WrongKind, NullNotAllowed, TargetMissing, ValueExists, RowReferenced, RowsFull, RowAbsent, KeysNotRising, NotIndexed}
+use Rattle.rules.specs.declared.answer.Refusal.the-variants.{UnknownTable, TableExists, EmptyTableName, NoColumns, KeyColumnOutOfRange, EmptyColumnName, KeyNullable, KeyNotUnique, KeyIndexed, NullableWithoutDefault, NullDefault, DefaultKind, UniqueNotIndexed, ReferenceNotIndexed, UnknownTarget, TargetKind, ColumnTwice, TablesFull, TooManyValues, MapCount, NoDefault, MapColumn, RowSize, KeyUndefined, KeyExists, WrongKind, NullNotAllowed, TargetMissing, ValueExists, RowReferenced, RowsFull, RowAbsent, KeysNotRising, NotIndexed, JournalFull, InsideBatch, BatchOutOfTurn}
 use Rattle.rules.specs.Ascii.{ascii}
 use Rattle.rules.specs.State.{Name, Column, Table}
 use Rattle.rules.specs.Layout.{bit}
-use Rattle.rules.specs.Request.{Pair, Request, Create, Drop, Insert, Update, Delete, Lookup, Reply, ok, no, carriedBy, noCarrying}
+use Rattle.rules.specs.Request.{Pair, Request, Create, Drop, Insert, Update, Delete, Lookup, Open, Keep, Back, Reply, ok, no, carriedBy, noCarrying}
 use Rattle.rules.specs.Sheet.{Case, says, int, keyColumn, plan}
 
 -- Two numbers without a line never meet in a sound store:
@@ -233,3 +233,33 @@ others =
 
 abbrev pub orders : List Case
 orders = told 1 (catalog ++ creates) ∷ told 2 (stored ++ inserts ++ updates ++ others) ∷ []
+
+-- ---- inside a batch (document 02, T-06): 44 before 2 and 3, 45; with no journal place left 43 behind all that is asked of a row, behind 32 on a delete
+
+-- a journal of one place, which the first update uses; what is refused there breaks 43 too
+abbrev pub inBatch : List Line
+inBatch =
+    (Keep, no BatchOutOfTurn 0)
+    ∷ (Back, no BatchOutOfTurn 0)
+    ∷ (Open, ok 0)
+    ∷ (Update pins (pair (int 1) pinOne ∷ []), ok 1)
+    ∷ (Open, no BatchOutOfTurn 0)
+    ∷ (Create pin, no InsideBatch 0)  -- 3
+    ∷ (Create (table [] 0 []), no InsideBatch 0)  -- 4, 5, 6
+    ∷ (Drop lost false, no InsideBatch 0)  -- 2
+    ∷ (Drop lost true, no InsideBatch 0)
+    ∷ inserts
+    ++ (Update pins (pair (int 2) [] ∷ pair (int 1) [] ∷ []), no KeysNotRising 1)  -- 25
+    ∷ (Update pins (pair (int 1) [] ∷ []), no RowSize 0)
+    ∷ map (λ (c : List Value × Refusal). (Update pins (pair (int 3) (int 3 ∷ c .0) ∷ []), no (c .1) 0)) cells  -- 34
+    ++ (Update pins (pair (int 3) (int 3 ∷ good) ∷ []), no RowAbsent 0)
+    ∷ (Update pins (pair (int 2) (int 3 ∷ good) ∷ []), referredBy 1 0)
+    ∷ (Update pins (pair (int 1) pinOne ∷ []), no JournalFull 0)
+    ∷ (Delete pins (int 2 ∷ []), referredBy 1 0)
+    ∷ (Delete pins (int 1 ∷ int 2 ∷ []), no JournalFull 0)
+    ∷ (Delete pins (int 9 ∷ []), ok 1)
+    ∷ (Back, ok 0)
+    ∷ []
+
+abbrev pub batchOrder : Case
+batchOrder = told 2 (stored ++ inBatch)

@@ -1,19 +1,16 @@
--- A batch as a computed case (document 02, T-06), with four journal places: what is written for each request. Assumes nothing.
+-- A batch as a case (document 02, T-06), with four journal places: requests out of turn, a batch that fills the journal and is taken back, and one that is
+-- kept. Assumes nothing.
 use Prim.Native.Nat.{ℕ}
-use mathlib.Core.Path.{_≡_, refl}
 use mathlib.Core.Bool.{true}
 use mathlib.Core.List.{List, [], _∷_}
 use mathlib.Core.Option.{none, some}
 use Rattle.values.specs.Value.{null}
 use Rattle.rules.specs.declared.answer.Refusal.the-variants.{BatchOutOfTurn, InsideBatch, JournalFull, KeyExists, ValueExists}
-use Rattle.rules.specs.Profile.{full}
 use Rattle.rules.specs.Ascii.{ascii}
 use Rattle.rules.specs.State.{Name, Table}
 use Rattle.rules.specs.Request.{Pair, Request, Create, Drop, Insert, Update, Delete, Scan, Open, Keep, Back, ok, no, withGone}
-use Rattle.rules.specs.Step.{Written, run}
-use Rattle.rules.specs.Sheet.{says, lists, int, keyColumn}
-use Rattle.rules.proofs.Cases.{rules}
-use Rattle.rules.specs.Journal.{fresh}
+use Rattle.rules.specs.Step.{Written}
+use Rattle.rules.specs.Sheet.{Case, says, lists, int, keyColumn}
 
 abbrev t : Name
 t = ascii "t"
@@ -90,6 +87,5 @@ written =
     ∷ says (ok 1)
     ∷ []
 
-pub batch-case : run full 70 (fresh 4) asked ≡ written
-unfolding rules
-batch-case = refl
+abbrev pub batchSheet : Case
+batchSheet = record { places = 70; asked = asked; written = written }
