@@ -41,18 +41,18 @@ module _ {p : Profile} {R : ℕ} {s j : List ℕ} {i : ℕ} (h : Turnable p R s 
   after = withRows (parse p R s) (put (eventAt p ((parse p R s) .tables) j i) ((parse p R s) .rows))
 
   next-state : LaidState p R (withRows (parse p R s) (put (eventAt p ((parse p R s) .tables) j i) ((parse p R s) .rows)))
-  next-state = put-laid p R (parse p R s) (held-state p R s (h .batch .store)) _ (turn-good h) (h .room)
+  next-state = put-laid p R (parse p R s) (held-state p R s (h .place .batch .store)) _ (turn-good (h .place)) (h .room)
 
   -- the store reads back
   pub next-parse : parse p R s₁ ≡ withRows (parse p R s) (put (eventAt p ((parse p R s) .tables) j i) ((parse p R s) .rows))
-  next-parse = ap (parse p R) (y .store) ∙ parse-image p (turn-known h) (h .batch .store .indexed) R (h .batch .store .places) after next-state
+  next-parse = ap (parse p R) (y .store) ∙ parse-image p (turn-known (h .place)) (h .place .batch .store .indexed) R (h .place .batch .store .places) after next-state
 
   pub next-store : LaidStore p R s₁
   next-store =
       record {
-        coded = h .batch .store .coded;
-        indexed = h .batch .store .indexed;
-        places = h .batch .store .places;
+        coded = h .place .batch .store .coded;
+        indexed = h .place .batch .store .indexed;
+        places = h .place .batch .store .places;
         laid = laid-of p R (parse p R s₁) (subst (LaidState p R) (sym next-parse) next-state);
         bytes = y .store ∙ ap (image p R) (sym next-parse);
       }
@@ -63,17 +63,17 @@ module _ {p : Profile} {R : ℕ} {s j : List ℕ} {i : ℕ} (h : Turnable p R s 
 
   next-good : every (goodEvent ((parse p R s) .tables)) (replaceAt i (stand (eventAt p ((parse p R s) .tables) j i) ((parse p R s) .rows)) (eventsIn p ((parse p R s) .tables) j)) ≡ true
   next-good =
-      every-replaced (goodEvent ((parse p R s) .tables)) (eventsIn p ((parse p R s) .tables) j) i _ (h .batch .good)
-      (stand-good p R (parse p R s) (held-state p R s (h .batch .store)) _ (turn-good h))
+      every-replaced (goodEvent ((parse p R s) .tables)) (eventsIn p ((parse p R s) .tables) j) i _ (h .place .batch .good)
+      (stand-good p R (parse p R s) (held-state p R s (h .place .batch .store)) _ (turn-good (h .place)))
 
   next-few : length (replaceAt i (stand (eventAt p ((parse p R s) .tables) j i) ((parse p R s) .rows)) (eventsIn p ((parse p R s) .tables) j)) ≤ journalPlaces p j
-  next-few = omega (arith, length-replace-at i (stand (eventAt p ((parse p R s) .tables) j i) ((parse p R s) .rows)) (eventsIn p ((parse p R s) .tables) j) (h .within), h .batch .few)
+  next-few = omega (arith, length-replace-at i (stand (eventAt p ((parse p R s) .tables) j i) ((parse p R s) .rows)) (eventsIn p ((parse p R s) .tables) j) (h .place .within), h .place .batch .few)
 
   next-journal : parseJournal p ((parse p R s) .tables) j₁ ≡ record { places = journalPlaces p j; batch = some fs }
   next-journal =
       ap (parseJournal p ((parse p R s) .tables)) (y .journal)
-      ∙ open-back p (turn-known h .cell) (h .batch .paging .coded .known .some-column) ((parse p R s) .tables) (journalPlaces p j) (h .batch .most) fs next-few
-      (λ e m. placed p R (parse p R s) (held-state p R s (h .batch .store)) (turn-known h) e (every-at (goodEvent ((parse p R s) .tables)) fs next-good e m))
+      ∙ open-back p (turn-known (h .place) .cell) (h .place .batch .paging .coded .known .some-column) ((parse p R s) .tables) (journalPlaces p j) (h .place .batch .most) fs next-few
+      (λ e m. placed p R (parse p R s) (held-state p R s (h .place .batch .store)) (turn-known (h .place)) e (every-at (goodEvent ((parse p R s) .tables)) fs next-good e m))
 
   pub next-places : journalPlaces p j₁ ≡ journalPlaces p j
   unfolding parseJournal
@@ -95,8 +95,8 @@ module _ {p : Profile} {R : ℕ} {s j : List ℕ} {i : ℕ} (h : Turnable p R s 
   next-batch =
       record {
         store = next-store;
-        paging = h .batch .paging;
-        most = rw next-places (h .batch .most);
+        paging = h .place .batch .paging;
+        most = rw next-places (h .place .batch .most);
         few = rw (next-tables, next-events, next-places) next-few;
         good = rw (next-tables, next-events) next-good;
         bytes = y .journal ∙ sym (rw (next-tables, next-places, next-events));

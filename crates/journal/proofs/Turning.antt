@@ -45,7 +45,7 @@ use Rattle.laid.proofs.Finding.{nth-map, nth-getD, all-nth, place-found, place-
 use Rattle.laid.proofs.Keyed.{row-at}
 use Rattle.laid.proofs.RowFacts.{table-there, start-key}
 use Rattle.laid.proofs.Stores.{held-state}
-use Rattle.journal.specs.Turn.{pageAt, eventAt, eventsIn, Turnable, Turned, Swapped, RowFrom}
+use Rattle.journal.specs.Turn.{pageAt, eventAt, eventsIn, PlaceIn, Turned, Swapped, RowFrom}
 use Rattle.journal.proofs.Noting.{open-within, open-put}
 use Rattle.journal.proofs.Events.{its-row, placed, put-laid, stand-good}
 
@@ -120,7 +120,7 @@ row-name p ts c = go (tableNamed ts (readName c)) refl
     go none e = refl
     go (some t) e = name-is _ _ (find-in (isNamed (readName c)) ts t e .1)
 
-module _ {p : Profile} {R : ℕ} {s j : List ℕ} {i : ℕ} (h : Turnable p R s j i) where
+module _ {p : Profile} {R : ℕ} {s j : List ℕ} {i : ℕ} (h : PlaceIn p R s j i) where
   abbrev st : State
   st = parse p R s
 
@@ -312,8 +312,8 @@ module _ {p : Profile} {R : ℕ} {s j : List ℕ} {i : ℕ} (h : Turnable p R s 
       key-normal =
           canonical-normal _ (canonical-cell (cellsOf row) ((tableIn p R s t) .key) (all-head _ _ (all-tail _ _ (all-tail _ _ (its-row p R st v new new-good .good)))))
 
-      new-laid : LaidState p R (withRows (parse p R s) (put (stood (rowOf (tableIn p R s t) (cellsOf row))) ((parse p R s) .rows)))
-      new-laid = put-laid p R st v (stood new) new-good (rw row-e at (h .room))
+      new-laid : length (put (eventAt p ((parse p R s) .tables) j i) ((parse p R s) .rows)) ≤ R → LaidState p R (withRows (parse p R s) (put (stood (rowOf (tableIn p R s t) (cellsOf row))) ((parse p R s) .rows)))
+      new-laid l = put-laid p R st v (stood new) new-good (rw row-e at l)
 
       put-is : withRows (parse p R s) (put (stood (rowOf (tableIn p R s t) (cellsOf row))) ((parse p R s) .rows)) ≡ withRows (parse p R s) (put (eventAt p ((parse p R s) .tables) j i) ((parse p R s) .rows))
       put-is = ap (λ (x : Event). withRows st (put x rs)) (sym row-e)
@@ -332,13 +332,13 @@ module _ {p : Profile} {R : ℕ} {s j : List ℕ} {i : ℕ} (h : Turnable p R s 
           none-there : rowWith ((parse p R s) .rows) ((tableIn p R s t) .name) (keyOf (tableIn p R s t) (cellsOf row)) ≡ none
           none-there = rw (its-name et, ← ek) (place-missing (isRow name key) rs (sym g))
 
-          pub row-addable : Addable p R s t (cellsOf row)
+          pub row-addable : length (put (eventAt p ((parse p R s) .tables) j i) ((parse p R s) .rows)) ≤ R → Addable p R s t (cellsOf row)
           unfolding apply put
-          row-addable =
+          row-addable l =
               record {
                 known = table-known et;
                 new = ap isSome none-there;
-                laid = laid-of p R _ new-laid;
+                laid = laid-of p R _ (new-laid l);
               }
 
           pub row-came : {s₁ j₁ : List ℕ} → Swapped p R s j i (added (rowOf (tableIn p R s t) (cellsOf row))) (absent name key) s₁ j₁ → Turned p R s j i s₁ j₁
@@ -347,13 +347,13 @@ module _ {p : Profile} {R : ℕ} {s j : List ℕ} {i : ℕ} (h : Turnable p R s 
 
         -- another does
         module _ {k : ℕ} (g : some k ≡ placeOf (isRow name key) ((parse p R s) .rows)) where
-          pub row-replaceable : Replaceable p R s t k (cellsOf row)
+          pub row-replaceable : length (put (eventAt p ((parse p R s) .tables) j i) ((parse p R s) .rows)) ≤ R → Replaceable p R s t k (cellsOf row)
           unfolding apply put
-          row-replaceable =
+          row-replaceable l =
               record {
                 row = row-its et key g;
                 same = rw ek at (and-right (ofTable name (rowIn p R s k)) (same (rowIn p R s k .key) key) (is-it et key g));
-                laid = laid-of p R _ new-laid;
+                laid = laid-of p R _ (new-laid l);
               }
 
           pub row-changed : {s₁ j₁ : List ℕ}

@@ -6,7 +6,7 @@ use Rattle.journal.proofs.turn.turn.Statement.{statement}
 use Rattle.journal.proofs.turn.turn.Tie as tie
 
 is-row-at-requires : tie.Need-is-row-at-requires
-is-row-at-requires c κs = let h = c .before .before .before .pre in (turn-known h, turn-place h)
+is-row-at-requires c κs = let h = c .before .before .before .pre .place in (turn-known h, turn-place h)
 
 turn-row-requires : tie.Need-turn-row-requires
 turn-row-requires c κs = (c .before .before .before .before .before .before .before .pre, (sym (c .before .before .before .is-row-at .ensures) ∙ c .before .before .if1 .taken))
