@@ -5,18 +5,23 @@ use native.Mathlib.Nat.{suc-mul, zero-mul, add-comm}
 use native.Mathlib.Numerals.{add-one}
 use native.Mathlib.Omega.{arith}
 use mathlib.Core.List.{List, [], _∷_, _++_, map}
+use mathlib.Core.Option.{Option, Option·map}
 use lib.ListN.{length, take, drop, set, length-set}
 use lib.Seq.{drop-drop, take-suc-set}
-use Rattle.values.specs.Value.{Value}
+use Rattle.values.specs.Basic.{orDefault}
+use Rattle.values.specs.Value.{Value, null}
 use Rattle.values.specs.Cell.{nameWidth, cellWidth, readValue}
 use Rattle.values.specs.declared.value.Cell.{Cell}
 use Rattle.values.specs.Meaning.{held, ProperCell}
 use Rattle.areas.specs.Records.{records}
 use Rattle.areas.specs.Sorted.{All}
+use Rattle.areas.proofs.Records.{length-records, getD-records}
 use Rattle.rules.specs.declared.profile.Profile.{Profile}
+use Rattle.rules.specs.State.{cellAt}
 use Rattle.rules.specs.Layout.{readCells}
 use Rattle.laid.specs.Row.{cellsOf}
 use Rattle.laid.proofs.Columns.{value-front}
+use Rattle.laid.proofs.Finding.{nth-map, nth-getD}
 use Rattle.journal.specs.Page.{Paging}
 use Rattle.journal.specs.Turn.{RowFrom}
 
@@ -80,3 +85,11 @@ module _ (p : Profile) (rec : List ℕ) (count : ℕ) where
           counted = refl;
           cells = rw e at (h .read);
         }
+
+-- a cell of those that are read
+pub cells-at : (w n i : ℕ) (s : List ℕ) → cellWidth ≤ w → i < n → cellAt (readCells w n s) i ≡ readValue (drop (i * w) s)
+unfolding readCells
+cells-at w n i s h l =
+    ap (λ (o : Option Value). orDefault o null) (nth-map readValue (records w n s) i ∙ ap (Option·map readValue) (nth-getD (records w n s) i [] (omega (arith, length-records w n s))))
+    ∙ ap readValue (getD-records w n i s l)
+    ∙ value-front w (drop (i * w) s) h

@@ -9,9 +9,9 @@ use mathlib.Core.Option.{Option, none, some, Option·map, Option·none-ne-some, 
 use lib.Dec.{eqb}
 use lib.ListN.{length, getD, take, drop, length-map, length-take, length-drop}
 use lib.Seq.{take-all, drop-drop, getD-take, length-take-le}
-use Rattle.values.specs.Basic.{nth, keep, isSome, orDefault, maybe}
+use Rattle.values.specs.Basic.{nth, isSome, orDefault, maybe}
 use Rattle.values.specs.Value.{Value, null, normalised, same}
-use Rattle.values.specs.Cell.{nameWidth, readName, readValue}
+use Rattle.values.specs.Cell.{nameWidth, cellWidth, readName, readValue}
 use Rattle.values.specs.Area.{recordAt, withRecord}
 use Rattle.values.specs.declared.value.Cell.{Cell}
 use Rattle.values.specs.declared.value.Value.the-variants.{Null}
@@ -20,22 +20,22 @@ use Rattle.areas.specs.Records.{Wide, records}
 use Rattle.areas.specs.Sorted.{In, replaceAt}
 use Rattle.areas.specs.Counted.{countAt}
 use Rattle.areas.proofs.Records.{length-records, getD-records}
-use Rattle.areas.proofs.Sorting.{find-in, find-none}
-use Rattle.areas.proofs.Placing.{keep-all}
+use Rattle.areas.proofs.Sorting.{find-in}
 use Rattle.rules.specs.declared.profile.Profile.{Profile}
 use Rattle.rules.specs.Profile.{rowWidth, Known}
 use Rattle.rules.specs.State.{Name, Table, Row, State, isNamed, ofTable, isRow, tableNamed, rowWith, cellAt, keyOf, rowOf}
 use Rattle.rules.specs.Journal.{Event, absent, stood, finding, put, stand}
-use Rattle.rules.specs.Layout.{image, parse, lists, readRow, unknown}
+use Rattle.rules.specs.Layout.{image, parse, lists, readRow, readCells, unknown}
 use Rattle.rules.specs.Sound.{goodCells, goodEvent}
 use Rattle.rules.specs.Step.{Change, added, removed, replaced, apply}
-use Rattle.rules.specs.Pages.{usedAt, journalHeader, eventWidth, eventRecord, readEvent, openImage, journalPlaces}
+use Rattle.rules.specs.Pages.{usedAt, journalHeader, eventWidth, journalLength, eventRecord, readEvent, openImage, journalPlaces}
 use Rattle.rules.proofs.Tests.{all-head, all-tail, every-at, name-is, and-left, and-right}
-use Rattle.rules.proofs.Lists.{map-wide, keep-ext, any-none, nth-in}
+use Rattle.rules.proofs.Lists.{map-wide, keep-ext, nth-in, nth-below}
 use Rattle.rules.proofs.Trip.{canonical-cell, canonical-normal}
 use Rattle.rules.proofs.Room.{key-column, few-columns}
 use Rattle.rules.proofs.Valid.{LaidState, laid-of}
 use Rattle.rules.proofs.Removed.{withRows, at-found}
+use Rattle.rules.proofs.Unwinding.{none-gone}
 use Rattle.rules.proofs.Paged.{event-long}
 use Rattle.laid.specs.declared.row.Row as F
 use Rattle.laid.specs.declared.catalog.Found.{Found}
@@ -45,8 +45,10 @@ use Rattle.laid.proofs.Finding.{nth-map, nth-getD, all-nth, place-found, place-
 use Rattle.laid.proofs.Keyed.{row-at}
 use Rattle.laid.proofs.RowFacts.{table-there, start-key}
 use Rattle.laid.proofs.Stores.{held-state}
-use Rattle.journal.specs.Turn.{pageAt, eventAt, eventsIn, PlaceIn, Turned, Swapped, RowFrom}
-use Rattle.journal.proofs.Noting.{open-within, open-put}
+use Rattle.journal.specs.Turn.{pageAt, eventAt, eventsIn, Batch, PlaceIn, Turned, Swapped, RowFrom}
+use Rattle.journal.specs.Back.{isStood, taken}
+use Rattle.journal.proofs.Noting.{open-length, open-within, open-put}
+use Rattle.journal.proofs.Flying.{cells-at}
 use Rattle.journal.proofs.Events.{its-row, placed, put-laid, stand-good}
 
 -- what stands past the end of an array of cells
@@ -74,6 +76,12 @@ content-is {rec} e = take-all (length rec - 1) (drop 1 rec) (rw length-drop (ome
 -- the key's cell, as the first cell behind the name
 pub key-is : (page : List ℕ) (w : ℕ) {content : List ℕ} {v : Value} → content ≡ drop 1 page → v ≡ readValue (drop (nameWidth + 0 * w) content) → v ≡ readValue (drop (1 + nameWidth) page)
 key-is page w {content} e f = f ∙ ap (λ (n : ℕ). readValue (drop (nameWidth + n) content)) (zero-mul w) ∙ rw e (ap readValue (drop-drop nameWidth 1 page))
+
+-- the key's cell of a row
+pub row-key : (w n k : ℕ) (page : List ℕ) {content : List ℕ} {i : ℕ} {v : Value} → cellWidth ≤ w → content ≡ drop 1 page → i ≡ k → k < n → v ≡ readValue (drop (nameWidth + i * w) content)
+    → v ≡ cellAt (readCells w n (drop nameWidth (drop 1 page))) k
+row-key w n k page h e g l f =
+    f ∙ rw (e, g) (ap readValue (sym (drop-drop (k * w) nameWidth (drop 1 page)))) ∙ sym (cells-at w n k (drop nameWidth (drop 1 page)) h l)
 
 pub answer-is : {r g : Found} {o : Option ℕ} → r ≡ g → foundAt r ≡ o → foundAt g ≡ o
 answer-is e h = rw e at h
@@ -103,14 +111,6 @@ replace-same {A = A} xs i x h = go xs i h
     go (y ∷ l) zero e = ap (λ (z : A). z ∷ l) (sym (Option·some-injective y x e))
     go (y ∷ l) (suc k) e = ap (λ (z : List A). y ∷ z) (go l k e)
 
-nth-within : {A : Type 0} (xs : List A) (i : ℕ) (x : A) → nth xs i ≡ some x → i < length xs
-nth-within [] i x e = absurd (Option·none-ne-some x e)
-nth-within (y ∷ xs) zero x e = omega arith
-nth-within (y ∷ xs) (suc i) x e = let r = nth-within xs i x e in omega arith
-
-none-gone : (n : Name) (k : Value) (rs : List Row) → rowWith rs n k ≡ none → keep (λ x. not (isRow n k x)) rs ≡ rs
-none-gone n k rs e = keep-all (isRow n k) rs (any-none (isRow n k) rs (λ r m. find-none (isRow n k) r rs e m))
-
 -- the name of a row is the one that was read, whether its table is stored or not
 row-name : (p : Profile) (ts : List Table) (c : List ℕ) → (readRow p ts c) .table ≡ readName c
 unfolding readRow
@@ -119,6 +119,34 @@ row-name p ts c = go (tableNamed ts (readName c)) refl
     go : (o : Option Table) → tableNamed ts (readName c) ≡ o → (orDefault o (unknown (readName c))) .name ≡ readName c
     go none e = refl
     go (some t) e = name-is _ _ (find-in (isNamed (readName c)) ts t e .1)
+
+-- ---- an open journal beside a laid-out store
+
+module _ {p : Profile} {R : ℕ} {s j : List ℕ} (b : Batch p R s j) where
+  pub long-event : (x : Event) → goodEvent ((parse p R s) .tables) x ≡ true → length (eventRecord p x) ≡ eventWidth p
+  long-event x g =
+      let k : Known p = b .store .coded .known in
+      event-long p (k .cell) (b .paging .coded .known .some-column) ((parse p R s) .tables) x (placed p R (parse p R s) (held-state p R s (b .store)) k x g)
+
+  batch-wide : Wide (eventWidth p) (map (eventRecord p) (eventsIn p ((parse p R s) .tables) j))
+  batch-wide =
+      let ts : List Table = (parse p R s) .tables in
+      map-wide (eventWidth p) (eventRecord p) (eventsIn p ts j) (λ x m. long-event x (every-at (goodEvent ts) (eventsIn p ts j) (b .good) x m))
+
+  pub batch-long : length j ≡ journalLength p (journalPlaces p j)
+  batch-long = ap length (b .bytes) ∙ open-length p (journalPlaces p j) (b .most) (eventsIn p ((parse p R s) .tables) j) (b .few) batch-wide
+
+  pub batch-header : journalHeader ≤ length j
+  unfolding journalLength
+  batch-header = omega (arith, batch-long)
+
+pub used-is : (p : Profile) (ts : List Table) (j : List ℕ) → countAt usedAt 2 j ≡ length (eventsIn p ts j)
+unfolding eventsIn
+used-is p ts j =
+    let rs : List (List ℕ) = records (eventWidth p) (countAt usedAt 2 j) (drop journalHeader j) in
+    sym (length-map rs (readEvent p ts) ∙ length-records (eventWidth p) (countAt usedAt 2 j) (drop journalHeader j))
+
+-- ---- place i
 
 module _ {p : Profile} {R : ℕ} {s j : List ℕ} {i : ℕ} (h : PlaceIn p R s j i) where
   abbrev st : State
@@ -145,17 +173,11 @@ module _ {p : Profile} {R : ℕ} {s j : List ℕ} {i : ℕ} (h : PlaceIn p R s j
   pub turn-known : Known p
   turn-known = h .batch .store .coded .known
 
-  long-event : (x : Event) → goodEvent ((parse p R s) .tables) x ≡ true → length (eventRecord p x) ≡ eventWidth p
-  long-event x g = event-long p (turn-known .cell) (h .batch .paging .coded .known .some-column) ts x (placed p R st v turn-known x g)
-
-  wide : Wide (eventWidth p) (map (eventRecord p) (eventsIn p ((parse p R s) .tables) j))
-  wide = map-wide (eventWidth p) (eventRecord p) es (λ x m. long-event x (every-at (goodEvent ts) es (h .batch .good) x m))
-
   pub turn-place : journalHeader + i * eventWidth p + eventWidth p ≤ length j
   turn-place =
-      omega (arith, ap length (h .batch .bytes), open-within p (journalPlaces p j) (h .batch .most) es (h .batch .few) wide i (omega (arith, h .within, h .batch .few)))
+      omega (arith, ap length (h .batch .bytes), open-within p (journalPlaces p j) (h .batch .most) es (h .batch .few) (batch-wide (h .batch)) i (omega (arith, h .within, h .batch .few)))
 
-  at-i : nth (eventsIn p ((parse p R s) .tables) j) i ≡ some (eventAt p ((parse p R s) .tables) j i)
+  pub at-i : nth (eventsIn p ((parse p R s) .tables) j) i ≡ some (eventAt p ((parse p R s) .tables) j i)
   unfolding eventsIn pageAt recordAt
   at-i =
       let w : ℕ = eventWidth p in
@@ -179,7 +201,7 @@ module _ {p : Profile} {R : ℕ} {s j : List ℕ} {i : ℕ} (h : PlaceIn p R s j
         journal =
             y .journal
             ∙ ap (withRecord journalHeader i (eventRecord p x)) (h .batch .bytes)
-            ∙ open-put p (journalPlaces p j) (h .batch .most) es (h .batch .few) wide i x (long-event x (ap (goodEvent ts) q ∙ stand-good p R st v e turn-good)) (h .within)
+            ∙ open-put p (journalPlaces p j) (h .batch .most) es (h .batch .few) (batch-wide (h .batch)) i x (long-event (h .batch) x (ap (goodEvent ts) q ∙ stand-good p R st v e turn-good)) (h .within)
             ∙ ap (λ (z : Event). openImage p (journalPlaces p j) (replaceAt i z es)) q;
       }
 
@@ -193,11 +215,11 @@ module _ {p : Profile} {R : ℕ} {s j : List ℕ} {i : ℕ} (h : PlaceIn p R s j
 
   -- ---- the two kinds
 
-  event-absent : eqb (getD (pageAt p j i) 0 0) 2 ≡ false → eventAt p ((parse p R s) .tables) j i ≡ absent (readName (drop 1 (pageAt p j i))) (readValue (drop (1 + nameWidth) (pageAt p j i)))
+  pub event-absent : eqb (getD (pageAt p j i) 0 0) 2 ≡ false → eventAt p ((parse p R s) .tables) j i ≡ absent (readName (drop 1 (pageAt p j i))) (readValue (drop (1 + nameWidth) (pageAt p j i)))
   unfolding readEvent
   event-absent k = rw k
 
-  event-stood : eqb (getD (pageAt p j i) 0 0) 2 ≡ true → eventAt p ((parse p R s) .tables) j i ≡ stood (readRow p ((parse p R s) .tables) (drop 1 (pageAt p j i)))
+  pub event-stood : eqb (getD (pageAt p j i) 0 0) 2 ≡ true → eventAt p ((parse p R s) .tables) j i ≡ stood (readRow p ((parse p R s) .tables) (drop 1 (pageAt p j i)))
   unfolding readEvent
   event-stood k = rw k
 
@@ -234,7 +256,7 @@ module _ {p : Profile} {R : ℕ} {s j : List ℕ} {i : ℕ} (h : PlaceIn p R s j
       key-below : (tableIn p R s t) .key < length ((tableIn p R s t) .columns)
       key-below =
           let k = key-column ts (tableIn p R s t) (v .faults (tableIn p R s t) table-in) in
-          nth-within ((tableIn p R s t) .columns) ((tableIn p R s t) .key) (k .column) (k .is)
+          nth-below ((tableIn p R s t) .columns) ((tableIn p R s t) .key) (k .column) (k .is)
 
       pub columns-few : length ((tableIn p R s t) .columns) ≤ p .columns
       columns-few = few-columns p R st v (tableIn p R s t) table-in
@@ -290,49 +312,58 @@ module _ {p : Profile} {R : ℕ} {s j : List ℕ} {i : ℕ} (h : PlaceIn p R s j
 
     -- ---- a row stood there
 
-    module _ (kind : eqb (getD (pageAt p j i) 0 0) 2 ≡ true) {t : ℕ} (et : some t ≡ placeOf (isNamed name) ((parse p R s) .tables)) {row : F.Row}
-        (f : RowFrom p (drop 1 (pageAt p j i)) (length ((tableIn p R s t) .columns)) row) where
+    module _ (kind : eqb (getD (pageAt p j i) 0 0) 2 ≡ true) {t : ℕ} (et : some t ≡ placeOf (isNamed name) ((parse p R s) .tables)) {vs : List Value}
+        (f : vs ≡ readCells (p .cell) (length ((tableIn p R s t) .columns)) (drop nameWidth (drop 1 (pageAt p j i)))) where
       abbrev new : Row
-      new = rowOf (tableIn p R s t) (cellsOf row)
+      new = rowOf (tableIn p R s t) vs
 
       abbrev kv : Value
-      kv = keyOf (tableIn p R s t) (cellsOf row)
+      kv = keyOf (tableIn p R s t) vs
 
-      row-e : eventAt p ((parse p R s) .tables) j i ≡ stood (rowOf (tableIn p R s t) (cellsOf row))
+      row-e : eventAt p ((parse p R s) .tables) j i ≡ stood (rowOf (tableIn p R s t) vs)
       unfolding readRow
       row-e =
           let q : tableNamed ts n ≡ some (tableIn p R s t) = ap (tableNamed ts) (sym en) ∙ table-is et in
-          event-stood kind ∙ ap stood (rw (q, f .cells))
+          event-stood kind ∙ ap stood (rw (q, f))
 
-      new-good : goodEvent ((parse p R s) .tables) (stood (rowOf (tableIn p R s t) (cellsOf row))) ≡ true
+      new-good : goodEvent ((parse p R s) .tables) (stood (rowOf (tableIn p R s t) vs)) ≡ true
       new-good = sym (ap (goodEvent ts) row-e) ∙ turn-good
 
-      key-normal : normalised (keyOf (tableIn p R s t) (cellsOf row)) ≡ keyOf (tableIn p R s t) (cellsOf row)
+      key-normal : normalised (keyOf (tableIn p R s t) vs) ≡ keyOf (tableIn p R s t) vs
       unfolding goodCells
       key-normal =
-          canonical-normal _ (canonical-cell (cellsOf row) ((tableIn p R s t) .key) (all-head _ _ (all-tail _ _ (all-tail _ _ (its-row p R st v new new-good .good)))))
+          canonical-normal _ (canonical-cell vs ((tableIn p R s t) .key) (all-head _ _ (all-tail _ _ (all-tail _ _ (its-row p R st v new new-good .good)))))
 
-      new-laid : length (put (eventAt p ((parse p R s) .tables) j i) ((parse p R s) .rows)) ≤ R → LaidState p R (withRows (parse p R s) (put (stood (rowOf (tableIn p R s t) (cellsOf row))) ((parse p R s) .rows)))
+      new-laid : length (put (eventAt p ((parse p R s) .tables) j i) ((parse p R s) .rows)) ≤ R → LaidState p R (withRows (parse p R s) (put (stood (rowOf (tableIn p R s t) vs)) ((parse p R s) .rows)))
       new-laid l = put-laid p R st v (stood new) new-good (rw row-e at l)
 
-      put-is : withRows (parse p R s) (put (stood (rowOf (tableIn p R s t) (cellsOf row))) ((parse p R s) .rows)) ≡ withRows (parse p R s) (put (eventAt p ((parse p R s) .tables) j i) ((parse p R s) .rows))
+      put-is : withRows (parse p R s) (put (stood (rowOf (tableIn p R s t) vs)) ((parse p R s) .rows)) ≡ withRows (parse p R s) (put (eventAt p ((parse p R s) .tables) j i) ((parse p R s) .rows))
       put-is = ap (λ (x : Event). withRows st (put x rs)) (sym row-e)
 
       -- what a search for its key finds is what stands there
-      stand-is : {key : Value} → key ≡ keyOf (tableIn p R s t) (cellsOf row) → {o : Option Row} → rowWith ((parse p R s) .rows) name key ≡ o
+      stand-is : {key : Value} → key ≡ keyOf (tableIn p R s t) vs → {o : Option Row} → rowWith ((parse p R s) .rows) name key ≡ o
           → finding name key o ≡ stand (eventAt p ((parse p R s) .tables) j i) ((parse p R s) .rows)
       unfolding stand
       stand-is {key} ek {o} g =
           let a : normalised kv ≡ key = key-normal ∙ sym ek in
           sym (ap (λ (x : Event). stand x rs) row-e ∙ rw (a, its-name et, g))
 
-      module _ {key : Value} (ek : key ≡ keyOf (tableIn p R s t) (cellsOf row)) where
+      -- whether a row does
+      pub stands-none : {key : Value} → key ≡ keyOf (tableIn p R s t) vs → none ≡ placeOf (isRow name key) ((parse p R s) .rows) → false ≡ taken p R s j i
+      unfolding maybe
+      stands-none {key} ek g = ap isStood (stand-is ek (place-missing (isRow name key) rs (sym g)))
+
+      pub stands-row : {key : Value} → key ≡ keyOf (tableIn p R s t) vs → {k : ℕ} → some k ≡ placeOf (isRow name key) ((parse p R s) .rows) → true ≡ taken p R s j i
+      unfolding maybe
+      stands-row {key} ek g = ap isStood (stand-is ek (row-found et key g))
+
+      module _ {key : Value} (ek : key ≡ keyOf (tableIn p R s t) vs) where
         -- none stands there now
         module _ (g : none ≡ placeOf (isRow name key) ((parse p R s) .rows)) where
-          none-there : rowWith ((parse p R s) .rows) ((tableIn p R s t) .name) (keyOf (tableIn p R s t) (cellsOf row)) ≡ none
+          none-there : rowWith ((parse p R s) .rows) ((tableIn p R s t) .name) (keyOf (tableIn p R s t) vs) ≡ none
           none-there = rw (its-name et, ← ek) (place-missing (isRow name key) rs (sym g))
 
-          pub row-addable : length (put (eventAt p ((parse p R s) .tables) j i) ((parse p R s) .rows)) ≤ R → Addable p R s t (cellsOf row)
+          pub row-addable : length (put (eventAt p ((parse p R s) .tables) j i) ((parse p R s) .rows)) ≤ R → Addable p R s t vs
           unfolding apply put
           row-addable l =
               record {
@@ -341,13 +372,13 @@ module _ {p : Profile} {R : ℕ} {s j : List ℕ} {i : ℕ} (h : PlaceIn p R s j
                 laid = laid-of p R _ (new-laid l);
               }
 
-          pub row-came : {s₁ j₁ : List ℕ} → Swapped p R s j i (added (rowOf (tableIn p R s t) (cellsOf row))) (absent name key) s₁ j₁ → Turned p R s j i s₁ j₁
+          pub row-came : {s₁ j₁ : List ℕ} → Swapped p R s j i (added (rowOf (tableIn p R s t) vs)) (absent name key) s₁ j₁ → Turned p R s j i s₁ j₁
           unfolding apply put maybe
           row-came y = turned-by y (stand-is ek (place-missing (isRow name key) rs (sym g))) put-is
 
         -- another does
         module _ {k : ℕ} (g : some k ≡ placeOf (isRow name key) ((parse p R s) .rows)) where
-          pub row-replaceable : length (put (eventAt p ((parse p R s) .tables) j i) ((parse p R s) .rows)) ≤ R → Replaceable p R s t k (cellsOf row)
+          pub row-replaceable : length (put (eventAt p ((parse p R s) .tables) j i) ((parse p R s) .rows)) ≤ R → Replaceable p R s t k vs
           unfolding apply put
           row-replaceable l =
               record {
@@ -357,6 +388,6 @@ module _ {p : Profile} {R : ℕ} {s j : List ℕ} {i : ℕ} (h : PlaceIn p R s j
               }
 
           pub row-changed : {s₁ j₁ : List ℕ}
-              → Swapped p R s j i (replaced (rowIn p R s k) (rowOf (tableIn p R s t) (cellsOf row))) (stood (rowIn p R s k)) s₁ j₁ → Turned p R s j i s₁ j₁
+              → Swapped p R s j i (replaced (rowIn p R s k) (rowOf (tableIn p R s t) vs)) (stood (rowIn p R s k)) s₁ j₁ → Turned p R s j i s₁ j₁
           unfolding apply put maybe
           row-changed y = turned-by y (stand-is ek (row-found et key g)) put-is

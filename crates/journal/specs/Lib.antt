@@ -1,3 +1,4 @@
 pub mod Page
 pub mod Turn
+pub mod Back
 pub mod Books

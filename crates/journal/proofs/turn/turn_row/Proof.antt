@@ -74,7 +74,7 @@ enum-told-2 : tie.Need-enum-told-2
 enum-told-2 c = search needs
 
 swap-in-requires : tie.Need-swap-in-requires
-swap-in-requires c κs = let b = c .before .before .before .before .before .before .before .before .before .before .before .before .before .before .before .before .before .before .before .before .before .before .before .before .before .before .before in let h = b .pre .0 .place in let en = c .before .before .before .before .before .before .before .before .before .before .before .before .before .before .before .before .before .before .before .before .before .before .read-name .ensures .0 ∙ ap readName (c .before .before .before .before .before .before .before .before .before .before .before .before .before .before .before .before .before .before .before .before .before .before .before .content-at .ensures) in let et = answer-is (c .before .before .before .before .before .before .before .before .before .before .before .before .before .before .before .before .before .before .t .given .1) (c .before .before .before .before .before .before .before .before .before .before .before .before .before .before .before .before .before .before .before .before .get-table .ensures) in let er = c .before .before .before .before .before .before .before .before .before .before .before .before .before .before .before .table-record .ensures in let ec = c .before .before .before .before .before .before .before .before .before .before .before .before .before .before .key-column .ensures in let no = answer-is (c .before .before .enum-told2 .given .1) (c .before .before .before .before .find-row .ensures) in let cc = c .before .before .before .before .before .before .before .before .before .before .before .column-count .ensures ∙ start-count (b .args .p) (b .args .places) (b .args .s .now) (h .batch .store) (c .before .before .before .before .before .before .before .before .before .before .before .before .before .before .before .before .before .before .t .given .0 .0) (table-known h en et) (c .before .before .before .before .before .before .before .before .before .before .before .before .table-record2 .result .now) (c .before .before .before .before .before .before .before .before .before .before .before .before .table-record2 .ensures) in let r = c .before .before .before .before .before .before .before .before .row-from .ensures in let f = from-is (c .before .before .before .before .before .before .before .before .before .content-at2 .ensures) cc r in let l = key-less h en et er ec in let m : c .before .before .before .before .before .before .before .before .before .before .before .before .before .before .key-column .result < c .before .before .before .before .before .before .before .before .row-from .result .count = omega (arith, l, cc, r .counted) in let q = cell-held (c .before .before .before .before .before .before .before .before .row-from .result) (r .proper) (c .before .before .before .before .before .before .before .before .before .before .before .before .before .before .key-column .result) m ∙ ap (cellAt (cellsOf (c .before .before .before .before .before .before .before .before .row-from .result))) (key-at h en et er ec) in ((h .batch .store, r .proper, row-addable h en (b .pre .1) et f q no (b .pre .0 .room)), (h .batch .paging, turn-place h, c .before .before .before .before .before .before .before .before .before .before .before .before .before .before .before .before .before .before .before .before .before .before .read-name .ensures .1, cell-proper (c .before .before .before .before .before .before .before .before .row-from .result) (r .proper) (c .before .before .before .before .before .before .before .before .before .before .before .before .before .before .key-column .result) m))
+swap-in-requires c κs = let b = c .before .before .before .before .before .before .before .before .before .before .before .before .before .before .before .before .before .before .before .before .before .before .before .before .before .before .before in let h = b .pre .0 .place in let en = c .before .before .before .before .before .before .before .before .before .before .before .before .before .before .before .before .before .before .before .before .before .before .read-name .ensures .0 ∙ ap readName (c .before .before .before .before .before .before .before .before .before .before .before .before .before .before .before .before .before .before .before .before .before .before .before .content-at .ensures) in let et = answer-is (c .before .before .before .before .before .before .before .before .before .before .before .before .before .before .before .before .before .before .t .given .1) (c .before .before .before .before .before .before .before .before .before .before .before .before .before .before .before .before .before .before .before .before .get-table .ensures) in let er = c .before .before .before .before .before .before .before .before .before .before .before .before .before .before .before .table-record .ensures in let ec = c .before .before .before .before .before .before .before .before .before .before .before .before .before .before .key-column .ensures in let no = answer-is (c .before .before .enum-told2 .given .1) (c .before .before .before .before .find-row .ensures) in let cc = c .before .before .before .before .before .before .before .before .before .before .before .column-count .ensures ∙ start-count (b .args .p) (b .args .places) (b .args .s .now) (h .batch .store) (c .before .before .before .before .before .before .before .before .before .before .before .before .before .before .before .before .before .before .t .given .0 .0) (table-known h en et) (c .before .before .before .before .before .before .before .before .before .before .before .before .table-record2 .result .now) (c .before .before .before .before .before .before .before .before .before .before .before .before .table-record2 .ensures) in let r = c .before .before .before .before .before .before .before .before .row-from .ensures in let f = from-is (c .before .before .before .before .before .before .before .before .before .content-at2 .ensures) cc r in let l = key-less h en et er ec in let m : c .before .before .before .before .before .before .before .before .before .before .before .before .before .before .key-column .result < c .before .before .before .before .before .before .before .before .row-from .result .count = omega (arith, l, cc, r .counted) in let q = cell-held (c .before .before .before .before .before .before .before .before .row-from .result) (r .proper) (c .before .before .before .before .before .before .before .before .before .before .before .before .before .before .key-column .result) m ∙ ap (cellAt (cellsOf (c .before .before .before .before .before .before .before .before .row-from .result))) (key-at h en et er ec) in ((h .batch .store, r .proper, row-addable h en (b .pre .1) et (f .cells) q no (b .pre .0 .room)), (h .batch .paging, turn-place h, c .before .before .before .before .before .before .before .before .before .before .before .before .before .before .before .before .before .before .before .before .before .before .read-name .ensures .1, cell-proper (c .before .before .before .before .before .before .before .before .row-from .result) (r .proper) (c .before .before .before .before .before .before .before .before .before .before .before .before .before .before .key-column .result) m))
 
 same-length-3 : tie.Need-same-length-3
 same-length-3 c = search needs
@@ -83,10 +83,10 @@ same-length-4 : tie.Need-same-length-4
 same-length-4 c = search needs
 
 returns-2 : tie.Need-returns-2
-returns-2 c = let b = c .before .before .before .before .before .before .before .before .before .before .before .before .before .before .before .before .before .before .before .before .before .before .before .before .before .before .before .before .before .before .before .before in let h = b .pre .0 .place in let en = c .before .before .before .before .before .before .before .before .before .before .before .before .before .before .before .before .before .before .before .before .before .before .before .before .before .before .before .read-name .ensures .0 ∙ ap readName (c .before .before .before .before .before .before .before .before .before .before .before .before .before .before .before .before .before .before .before .before .before .before .before .before .before .before .before .before .content-at .ensures) in let et = answer-is (c .before .before .before .before .before .before .before .before .before .before .before .before .before .before .before .before .before .before .before .before .before .before .before .t .given .1) (c .before .before .before .before .before .before .before .before .before .before .before .before .before .before .before .before .before .before .before .before .before .before .before .before .before .get-table .ensures) in let er = c .before .before .before .before .before .before .before .before .before .before .before .before .before .before .before .before .before .before .before .before .table-record .ensures in let ec = c .before .before .before .before .before .before .before .before .before .before .before .before .before .before .before .before .before .before .before .key-column .ensures in let no = answer-is (c .before .before .before .before .before .before .before .enum-told2 .given .1) (c .before .before .before .before .before .before .before .before .before .find-row .ensures) in let cc = c .before .before .before .before .before .before .before .before .before .before .before .before .before .before .before .before .column-count .ensures ∙ start-count (b .args .p) (b .args .places) (b .args .s .now) (h .batch .store) (c .before .before .before .before .before .before .before .before .before .before .before .before .before .before .before .before .before .before .before .before .before .before .before .t .given .0 .0) (table-known h en et) (c .before .before .before .before .before .before .before .before .before .before .before .before .before .before .before .before .before .table-record2 .result .now) (c .before .before .before .before .before .before .before .before .before .before .before .before .before .before .before .before .before .table-record2 .ensures) in let r = c .before .before .before .before .before .before .before .before .before .before .before .before .before .row-from .ensures in let f = from-is (c .before .before .before .before .before .before .before .before .before .before .before .before .before .before .content-at2 .ensures) cc r in let l = key-less h en et er ec in let m : c .before .before .before .before .before .before .before .before .before .before .before .before .before .before .before .before .before .before .before .key-column .result < c .before .before .before .before .before .before .before .before .before .before .before .before .before .row-from .result .count = omega (arith, l, cc, r .counted) in let q = cell-held (c .before .before .before .before .before .before .before .before .before .before .before .before .before .row-from .result) (r .proper) (c .before .before .before .before .before .before .before .before .before .before .before .before .before .before .before .before .before .before .before .key-column .result) m ∙ ap (cellAt (cellsOf (c .before .before .before .before .before .before .before .before .before .before .before .before .before .row-from .result))) (key-at h en et er ec) in row-came h en (b .pre .1) et f q no (c .before .before .before .before .swap-in .ensures)
+returns-2 c = let b = c .before .before .before .before .before .before .before .before .before .before .before .before .before .before .before .before .before .before .before .before .before .before .before .before .before .before .before .before .before .before .before .before in let h = b .pre .0 .place in let en = c .before .before .before .before .before .before .before .before .before .before .before .before .before .before .before .before .before .before .before .before .before .before .before .before .before .before .before .read-name .ensures .0 ∙ ap readName (c .before .before .before .before .before .before .before .before .before .before .before .before .before .before .before .before .before .before .before .before .before .before .before .before .before .before .before .before .content-at .ensures) in let et = answer-is (c .before .before .before .before .before .before .before .before .before .before .before .before .before .before .before .before .before .before .before .before .before .before .before .t .given .1) (c .before .before .before .before .before .before .before .before .before .before .before .before .before .before .before .before .before .before .before .before .before .before .before .before .before .get-table .ensures) in let er = c .before .before .before .before .before .before .before .before .before .before .before .before .before .before .before .before .before .before .before .before .table-record .ensures in let ec = c .before .before .before .before .before .before .before .before .before .before .before .before .before .before .before .before .before .before .before .key-column .ensures in let no = answer-is (c .before .before .before .before .before .before .before .enum-told2 .given .1) (c .before .before .before .before .before .before .before .before .before .find-row .ensures) in let cc = c .before .before .before .before .before .before .before .before .before .before .before .before .before .before .before .before .column-count .ensures ∙ start-count (b .args .p) (b .args .places) (b .args .s .now) (h .batch .store) (c .before .before .before .before .before .before .before .before .before .before .before .before .before .before .before .before .before .before .before .before .before .before .before .t .given .0 .0) (table-known h en et) (c .before .before .before .before .before .before .before .before .before .before .before .before .before .before .before .before .before .table-record2 .result .now) (c .before .before .before .before .before .before .before .before .before .before .before .before .before .before .before .before .before .table-record2 .ensures) in let r = c .before .before .before .before .before .before .before .before .before .before .before .before .before .row-from .ensures in let f = from-is (c .before .before .before .before .before .before .before .before .before .before .before .before .before .before .content-at2 .ensures) cc r in let l = key-less h en et er ec in let m : c .before .before .before .before .before .before .before .before .before .before .before .before .before .before .before .before .before .before .before .key-column .result < c .before .before .before .before .before .before .before .before .before .before .before .before .before .row-from .result .count = omega (arith, l, cc, r .counted) in let q = cell-held (c .before .before .before .before .before .before .before .before .before .before .before .before .before .row-from .result) (r .proper) (c .before .before .before .before .before .before .before .before .before .before .before .before .before .before .before .before .before .before .before .key-column .result) m ∙ ap (cellAt (cellsOf (c .before .before .before .before .before .before .before .before .before .before .before .before .before .row-from .result))) (key-at h en et er ec) in row-came h en (b .pre .1) et (f .cells) q no (c .before .before .before .before .swap-in .ensures)
 
 swap-requires : tie.Need-swap-requires
-swap-requires c κs = let b = c .before .before .before .before .before .before .before .before .before .before .before .before .before .before .before .before .before .before .before .before .before .before .before .before .before .before .before .before in let h = b .pre .0 .place in let en = c .before .before .before .before .before .before .before .before .before .before .before .before .before .before .before .before .before .before .before .before .before .before .before .read-name .ensures .0 ∙ ap readName (c .before .before .before .before .before .before .before .before .before .before .before .before .before .before .before .before .before .before .before .before .before .before .before .before .content-at .ensures) in let et = answer-is (c .before .before .before .before .before .before .before .before .before .before .before .before .before .before .before .before .before .before .before .t .given .1) (c .before .before .before .before .before .before .before .before .before .before .before .before .before .before .before .before .before .before .before .before .before .get-table .ensures) in let er = c .before .before .before .before .before .before .before .before .before .before .before .before .before .before .before .before .table-record .ensures in let ec = c .before .before .before .before .before .before .before .before .before .before .before .before .before .before .before .key-column .ensures in let ek = answer-is (c .before .before .before .k .given .1) (c .before .before .before .before .before .find-row .ensures) in let cc = c .before .before .before .before .before .before .before .before .before .before .before .before .column-count .ensures ∙ start-count (b .args .p) (b .args .places) (b .args .s .now) (h .batch .store) (c .before .before .before .before .before .before .before .before .before .before .before .before .before .before .before .before .before .before .before .t .given .0 .0) (table-known h en et) (c .before .before .before .before .before .before .before .before .before .before .before .before .before .table-record2 .result .now) (c .before .before .before .before .before .before .before .before .before .before .before .before .before .table-record2 .ensures) in let r = c .before .before .before .before .before .before .before .before .before .row-from .ensures in let f = from-is (c .before .before .before .before .before .before .before .before .before .before .content-at2 .ensures) cc r in let l = key-less h en et er ec in let m : c .before .before .before .before .before .before .before .before .before .before .before .before .before .before .before .key-column .result < c .before .before .before .before .before .before .before .before .before .row-from .result .count = omega (arith, l, cc, r .counted) in let q = cell-held (c .before .before .before .before .before .before .before .before .before .row-from .result) (r .proper) (c .before .before .before .before .before .before .before .before .before .before .before .before .before .before .before .key-column .result) m ∙ ap (cellAt (cellsOf (c .before .before .before .before .before .before .before .before .before .row-from .result))) (key-at h en et er ec) in ((h .batch .store, r .proper, row-replaceable h en (b .pre .1) et f q ek (b .pre .0 .room)), turn-place h)
+swap-requires c κs = let b = c .before .before .before .before .before .before .before .before .before .before .before .before .before .before .before .before .before .before .before .before .before .before .before .before .before .before .before .before in let h = b .pre .0 .place in let en = c .before .before .before .before .before .before .before .before .before .before .before .before .before .before .before .before .before .before .before .before .before .before .before .read-name .ensures .0 ∙ ap readName (c .before .before .before .before .before .before .before .before .before .before .before .before .before .before .before .before .before .before .before .before .before .before .before .before .content-at .ensures) in let et = answer-is (c .before .before .before .before .before .before .before .before .before .before .before .before .before .before .before .before .before .before .before .t .given .1) (c .before .before .before .before .before .before .before .before .before .before .before .before .before .before .before .before .before .before .before .before .before .get-table .ensures) in let er = c .before .before .before .before .before .before .before .before .before .before .before .before .before .before .before .before .table-record .ensures in let ec = c .before .before .before .before .before .before .before .before .before .before .before .before .before .before .before .key-column .ensures in let ek = answer-is (c .before .before .before .k .given .1) (c .before .before .before .before .before .find-row .ensures) in let cc = c .before .before .before .before .before .before .before .before .before .before .before .before .column-count .ensures ∙ start-count (b .args .p) (b .args .places) (b .args .s .now) (h .batch .store) (c .before .before .before .before .before .before .before .before .before .before .before .before .before .before .before .before .before .before .before .t .given .0 .0) (table-known h en et) (c .before .before .before .before .before .before .before .before .before .before .before .before .before .table-record2 .result .now) (c .before .before .before .before .before .before .before .before .before .before .before .before .before .table-record2 .ensures) in let r = c .before .before .before .before .before .before .before .before .before .row-from .ensures in let f = from-is (c .before .before .before .before .before .before .before .before .before .before .content-at2 .ensures) cc r in let l = key-less h en et er ec in let m : c .before .before .before .before .before .before .before .before .before .before .before .before .before .before .before .key-column .result < c .before .before .before .before .before .before .before .before .before .row-from .result .count = omega (arith, l, cc, r .counted) in let q = cell-held (c .before .before .before .before .before .before .before .before .before .row-from .result) (r .proper) (c .before .before .before .before .before .before .before .before .before .before .before .before .before .before .before .key-column .result) m ∙ ap (cellAt (cellsOf (c .before .before .before .before .before .before .before .before .before .row-from .result))) (key-at h en et er ec) in ((h .batch .store, r .proper, row-replaceable h en (b .pre .1) et (f .cells) q ek (b .pre .0 .room)), turn-place h)
 
 same-length-5 : tie.Need-same-length-5
 same-length-5 c = search needs
@@ -95,7 +95,7 @@ same-length-6 : tie.Need-same-length-6
 same-length-6 c = search needs
 
 returns-3 : tie.Need-returns-3
-returns-3 c = let b = c .before .before .before .before .before .before .before .before .before .before .before .before .before .before .before .before .before .before .before .before .before .before .before .before .before .before .before .before .before .before .before .before .before in let h = b .pre .0 .place in let en = c .before .before .before .before .before .before .before .before .before .before .before .before .before .before .before .before .before .before .before .before .before .before .before .before .before .before .before .before .read-name .ensures .0 ∙ ap readName (c .before .before .before .before .before .before .before .before .before .before .before .before .before .before .before .before .before .before .before .before .before .before .before .before .before .before .before .before .before .content-at .ensures) in let et = answer-is (c .before .before .before .before .before .before .before .before .before .before .before .before .before .before .before .before .before .before .before .before .before .before .before .before .t .given .1) (c .before .before .before .before .before .before .before .before .before .before .before .before .before .before .before .before .before .before .before .before .before .before .before .before .before .before .get-table .ensures) in let er = c .before .before .before .before .before .before .before .before .before .before .before .before .before .before .before .before .before .before .before .before .before .table-record .ensures in let ec = c .before .before .before .before .before .before .before .before .before .before .before .before .before .before .before .before .before .before .before .before .key-column .ensures in let ek = answer-is (c .before .before .before .before .before .before .before .before .k .given .1) (c .before .before .before .before .before .before .before .before .before .before .find-row .ensures) in let cc = c .before .before .before .before .before .before .before .before .before .before .before .before .before .before .before .before .before .column-count .ensures ∙ start-count (b .args .p) (b .args .places) (b .args .s .now) (h .batch .store) (c .before .before .before .before .before .before .before .before .before .before .before .before .before .before .before .before .before .before .before .before .before .before .before .before .t .given .0 .0) (table-known h en et) (c .before .before .before .before .before .before .before .before .before .before .before .before .before .before .before .before .before .before .table-record2 .result .now) (c .before .before .before .before .before .before .before .before .before .before .before .before .before .before .before .before .before .before .table-record2 .ensures) in let r = c .before .before .before .before .before .before .before .before .before .before .before .before .before .before .row-from .ensures in let f = from-is (c .before .before .before .before .before .before .before .before .before .before .before .before .before .before .before .content-at2 .ensures) cc r in let l = key-less h en et er ec in let m : c .before .before .before .before .before .before .before .before .before .before .before .before .before .before .before .before .before .before .before .before .key-column .result < c .before .before .before .before .before .before .before .before .before .before .before .before .before .before .row-from .result .count = omega (arith, l, cc, r .counted) in let q = cell-held (c .before .before .before .before .before .before .before .before .before .before .before .before .before .before .row-from .result) (r .proper) (c .before .before .before .before .before .before .before .before .before .before .before .before .before .before .before .before .before .before .before .before .key-column .result) m ∙ ap (cellAt (cellsOf (c .before .before .before .before .before .before .before .before .before .before .before .before .before .before .row-from .result))) (key-at h en et er ec) in row-changed h en (b .pre .1) et f q ek (c .before .before .before .before .swap .ensures)
+returns-3 c = let b = c .before .before .before .before .before .before .before .before .before .before .before .before .before .before .before .before .before .before .before .before .before .before .before .before .before .before .before .before .before .before .before .before .before in let h = b .pre .0 .place in let en = c .before .before .before .before .before .before .before .before .before .before .before .before .before .before .before .before .before .before .before .before .before .before .before .before .before .before .before .before .read-name .ensures .0 ∙ ap readName (c .before .before .before .before .before .before .before .before .before .before .before .before .before .before .before .before .before .before .before .before .before .before .before .before .before .before .before .before .before .content-at .ensures) in let et = answer-is (c .before .before .before .before .before .before .before .before .before .before .before .before .before .before .before .before .before .before .before .before .before .before .before .before .t .given .1) (c .before .before .before .before .before .before .before .before .before .before .before .before .before .before .before .before .before .before .before .before .before .before .before .before .before .before .get-table .ensures) in let er = c .before .before .before .before .before .before .before .before .before .before .before .before .before .before .before .before .before .before .before .before .before .table-record .ensures in let ec = c .before .before .before .before .before .before .before .before .before .before .before .before .before .before .before .before .before .before .before .before .key-column .ensures in let ek = answer-is (c .before .before .before .before .before .before .before .before .k .given .1) (c .before .before .before .before .before .before .before .before .before .before .find-row .ensures) in let cc = c .before .before .before .before .before .before .before .before .before .before .before .before .before .before .before .before .before .column-count .ensures ∙ start-count (b .args .p) (b .args .places) (b .args .s .now) (h .batch .store) (c .before .before .before .before .before .before .before .before .before .before .before .before .before .before .before .before .before .before .before .before .before .before .before .before .t .given .0 .0) (table-known h en et) (c .before .before .before .before .before .before .before .before .before .before .before .before .before .before .before .before .before .before .table-record2 .result .now) (c .before .before .before .before .before .before .before .before .before .before .before .before .before .before .before .before .before .before .table-record2 .ensures) in let r = c .before .before .before .before .before .before .before .before .before .before .before .before .before .before .row-from .ensures in let f = from-is (c .before .before .before .before .before .before .before .before .before .before .before .before .before .before .before .content-at2 .ensures) cc r in let l = key-less h en et er ec in let m : c .before .before .before .before .before .before .before .before .before .before .before .before .before .before .before .before .before .before .before .before .key-column .result < c .before .before .before .before .before .before .before .before .before .before .before .before .before .before .row-from .result .count = omega (arith, l, cc, r .counted) in let q = cell-held (c .before .before .before .before .before .before .before .before .before .before .before .before .before .before .row-from .result) (r .proper) (c .before .before .before .before .before .before .before .before .before .before .before .before .before .before .before .before .before .before .before .before .key-column .result) m ∙ ap (cellAt (cellsOf (c .before .before .before .before .before .before .before .before .before .before .before .before .before .before .row-from .result))) (key-at h en et er ec) in row-changed h en (b .pre .1) et (f .cells) q ek (c .before .before .before .before .swap .ensures)
 
 pub turn-row-spec : {M : Type 1} → statement M
 turn-row-spec =
