@@ -1,6 +1,6 @@
 -- A journal's bytes: what is read of them, and a place more. Assumes nothing.
 use mathlib.Core.Path.{_≡_, refl, sym, ap, _∙_}
-use mathlib.Core.Bool.{Bool, true, false, not, true≢false, false≢true}
+use mathlib.Core.Bool.{Bool, true, false, not, true≢false, false≢true, cond}
 use mathlib.Core.Option.{Option, none, some}
 use Prim.Native.Nat.{ℕ, zero, suc, _+_, _-_, _*_, _≤_, _<_}
 use native.Mathlib.Nat.{sub-zero}
@@ -22,7 +22,7 @@ use Rattle.rules.specs.declared.profile.Profile.{Profile}
 use Rattle.rules.specs.Journal.{Event, Journal, lacks}
 use Rattle.rules.specs.Pages.{journalMost, usedAt, journalHeader, eventWidth, journalLength, eventRecord, openImage, journalImage, journalPlaces}
 use Rattle.rules.proofs.Paged.{places-back}
-use Rattle.journal.specs.Page.{Journaled, Paged, Roomy, noting, Tells, Opens, Closes, Noted, Spacious, Opened}
+use Rattle.journal.specs.Page.{Journaled, Paged, Roomy, noting, Spacious, Opened, opens, hasPlaces, withZeros, withPlace, closedOf}
 
 first-zero : (n : ℕ) → getD {A = ℕ} (replicate n 0) 0 0 ≡ 0
 first-zero zero = refl
@@ -100,9 +100,6 @@ module _ (p : Profile) (J : ℕ) (most : J ≤ journalMost) (es : List Event) (f
 
 -- ---- any journal
 
-abbrev opens : List ℕ → Bool
-opens j = not (eqb (getD j 0 0) 0)
-
 -- what is read of it: none is open, or one with places es
 pub record OpenAs (p : Profile) (x : Journal) (es : List Event) (j : List ℕ) : Type 0 where
   pub batch : x .batch ≡ some es
@@ -137,6 +134,10 @@ module _ {p : Profile} {x : Journal} {j : List ℕ} (h : Journaled p x j) where
       by-batch (x .batch ≡ none) (λ e f. e)
       (λ es o. absurd (true≢false (sym (ap opens (o .bytes) ∙ ap (λ (n : ℕ). not (eqb n 0)) (open-first p (x .places) (h .most) es (o .few) (o .wide))) ∙ c)))
 
+  closed-lacks : (n : ℕ) → opens j ≡ false → lacks x n ≡ false
+  unfolding lacks maybe
+  closed-lacks n c = rw (book-closed c)
+
   pub book-open : opens j ≡ true → (Q : Type 0) → ((es : List Event) → OpenAs p x es j → Q) → Q
   book-open c Q g =
       by-batch Q (λ e f. absurd (false≢true (sym (ap opens f ∙ ap (λ (n : ℕ). not (eqb n 0)) (first-zero (journalLength p (x .places)))) ∙ c))) g
@@ -161,15 +162,16 @@ module _ {p : Profile} {x : Journal} {j : List ℕ} (h : Journaled p x j) where
         }
 
     module _ {i : ℕ} {j₁ : List ℕ} (n : Opened p j i j₁) (l : lacks x 1 ≡ false) where
-      opened-is : j₁ ≡ grown usedAt 2 journalHeader (x .places) (length es) (replicate (eventWidth p) 0) (openImage p (x .places) es)
-      opened-is = n .bytes ∙ rw (n .place, book-places, book-used, o .bytes)
+      zeroed : j₁ ≡ grown usedAt 2 journalHeader (x .places) (length es) (replicate (eventWidth p) 0) (openImage p (x .places) es)
+      unfolding withZeros
+      zeroed = n .bytes ∙ rw (book-places, book-used, o .bytes)
 
       pub place-there : journalHeader + i * eventWidth p + eventWidth p ≤ length j₁
       unfolding journalLength
       place-there =
           let t = times-lt (length es) (x .places) (eventWidth p) (room-is l) in
           let e : i ≡ length es = n .place ∙ book-used in
-          rw e (omega (arith, ap length opened-is, grown-long p (x .places) (h .most) es (o .few) (o .wide) (room-is l)))
+          rw e (omega (arith, ap length zeroed, grown-long p (x .places) (h .most) es (o .few) (o .wide) (room-is l)))
 
       noted-image : (e : Event) → journalImage p (noting e x) ≡ openImage p (x .places) (es ++ (e ∷ []))
       unfolding journalImage maybe
@@ -178,13 +180,57 @@ module _ {p : Profile} {x : Journal} {j : List ℕ} (h : Journaled p x j) where
       pub place-noted : (e : Event) → length (eventRecord p e) ≡ eventWidth p → withRecord journalHeader i (eventRecord p e) j₁ ≡ journalImage p (noting e x)
       place-noted e w =
           let q : i ≡ length es = n .place ∙ book-used in
-          rw (noted-image e, opened-is, q) (open-noted p (x .places) (h .most) es (o .few) (o .wide) (room-is l) e w)
+          rw (noted-image e, zeroed, q) (open-noted p (x .places) (h .most) es (o .few) (o .wide) (room-is l) e w)
 
--- ---- the functions
+-- ---- what the code asks and writes, of whichever journal the bytes are
 
-pub told-closed : {p : Profile} {j : List ℕ} (n : ℕ) → opens j ≡ false → Tells p n j true
-unfolding lacks maybe
-told-closed n c = record { of = λ x h. sym (rw (book-closed h c)) }
+module _ {p : Profile} {x : Journal} {j : List ℕ} (h : Journaled p x j) where
+  pub has-places-is : (n : ℕ) → hasPlaces p n j ≡ not (lacks x n)
+  unfolding hasPlaces
+  has-places-is n = go (opens j) refl
+    where
+      enough : (J k : ℕ) → k ≤ J → leb n (J - k) ≡ not (ltb J (k + n))
+      enough J k f = by-test (ltb J (k + n)) refl
+        where
+          by-test : (t : Bool) → ltb J (k + n) ≡ t → leb n (J - k) ≡ not t
+          by-test true e = lt-leb n (J - k) (omega (arith, ltb-true J (k + n) e))
+          by-test false e = le-leb n (J - k) (omega (arith, ltb-false J (k + n) e))
+
+      go : (t : Bool) → opens j ≡ t → cond t (leb n (journalPlaces p j - countAt usedAt 2 j)) true ≡ not (lacks x n)
+      go true c = book-open h c _ (λ es o. rw (book-places h, book-used h o) (enough (x .places) (length es) (o .few)) ∙ ap not (sym (lacks-is h o n)))
+      go false c = sym (ap not (closed-lacks h n c))
+
+  pub with-place-is : lacks x 1 ≡ false → (e : Event) → length (eventRecord p e) ≡ eventWidth p → withPlace p (eventRecord p e) j ≡ journalImage p (noting e x)
+  unfolding withPlace journalImage maybe
+  with-place-is l e w = go (opens j) refl
+    where
+      go : (t : Bool) → opens j ≡ t → cond t (withRecord journalHeader (countAt usedAt 2 j) (eventRecord p e) (withZeros p j)) j ≡ journalImage p (noting e x)
+      go true c = book-open h c _ (λ es o. place-noted h o (record { place = refl; bytes = refl }) l e w)
+      go false c = let n = book-closed h c in h .bytes ∙ rw n
+
+-- a batch opened and closed
+three-zeros : (n : ℕ) → replicate {A = ℕ} (3 + n) 0 ≡ 0 ∷ 0 ∷ 0 ∷ replicate n 0
+three-zeros n = let e : 3 + n ≡ suc (suc (suc n)) = omega arith in rw e
+
+pub opened-is : (p : Profile) (J : ℕ) → set (journalImage p (closedOf J)) 0 1 ≡ openImage p J []
+unfolding journalImage journalLength openImage framed filled area joined be maybe
+opened-is p J =
+    ap (λ (l : List ℕ). set l 0 1) (three-zeros (J * eventWidth p))
+    ∙ ap (λ (l : List ℕ). 1 ∷ 0 ∷ 0 ∷ l) (sym (rw (sub-zero J) (append-nil (replicate (J * eventWidth p) 0))))
+
+pub closed-is : (p : Profile) (J : ℕ) (j : List ℕ) → length j ≡ journalLength p J → replicate (length j) 0 ≡ journalImage p (closedOf J)
+unfolding journalImage maybe
+closed-is p J j l = rw l
+
+-- ---- inside the functions
+
+pub all-cleared : (j : List ℕ) → cleared 0 (length j) j ≡ replicate (length j) 0
+unfolding cleared
+all-cleared j = rw (drop-of-length-le j {i = length j} (omega arith), append-nil, sub-zero)
+
+pub places-closed : (p : Profile) (j : List ℕ) (n : ℕ) → opens j ≡ false → true ≡ hasPlaces p n j
+unfolding hasPlaces
+places-closed p j n c = rw c
 
 used-within : {p : Profile} {j : List ℕ} → Paged p j → opens j ≡ true → countAt usedAt 2 j ≤ journalPlaces p j
 used-within b c =
@@ -194,37 +240,13 @@ module _ {p : Profile} {j : List ℕ} (b : Paged p j) (c : opens j ≡ true) {pl
   pub used-few : used ≤ places
   used-few = omega (arith, used-within b c)
 
-  pub told-open : (n : ℕ) → Tells p n j (leb n (places - used))
-  told-open n =
-      record {
-        of = λ x h. book-open h c _ (λ es o.
-            let q : places ≡ x .places = ep ∙ book-places h in
-            let u : used ≡ length es = eu ∙ book-used h o in
-            rw (q, u) (either n (x .places) (length es) (o .few)) ∙ ap not (sym (lacks-is h o n)));
-      }
-    where
-      either : (n J k : ℕ) → k ≤ J → leb n (J - k) ≡ not (ltb J (k + n))
-      either n J k f = go (ltb J (k + n)) refl
-        where
-          go : (t : Bool) → ltb J (k + n) ≡ t → leb n (J - k) ≡ not t
-          go true e = lt-leb n (J - k) (omega (arith, ltb-true J (k + n) e))
-          go false e = le-leb n (J - k) (omega (arith, ltb-false J (k + n) e))
+  pub places-open : (n : ℕ) → leb n (places - used) ≡ hasPlaces p n j
+  unfolding hasPlaces
+  places-open n = rw (c, ep, eu)
 
-three-zeros : (n : ℕ) → replicate {A = ℕ} (3 + n) 0 ≡ 0 ∷ 0 ∷ 0 ∷ replicate n 0
-three-zeros n = let e : 3 + n ≡ suc (suc (suc n)) = omega arith in rw e
-
-pub opens-of : (j : List ℕ) → Opens j (set j 0 1)
-unfolding journalImage journalLength openImage framed filled area joined be maybe
-opens-of j = record { of = λ p J e. ap (λ (l : List ℕ). set l 0 1) (e ∙ three-zeros (J * eventWidth p)) ∙ ap (λ (l : List ℕ). 1 ∷ 0 ∷ 0 ∷ l) (sym (rw (sub-zero J) (append-nil (replicate (J * eventWidth p) 0)))) }
-
-pub closes-of : (j j₁ : List ℕ) → j₁ ≡ cleared 0 (length j) j → Closes j j₁
-unfolding cleared journalImage maybe
-closes-of j j₁ e =
-    record { of = λ p J l. e ∙ rw (drop-of-length-le j {i = length j} (omega arith), append-nil, sub-zero, l) }
-
-pub note-none : {p : Profile} {j : List ℕ} (r : List ℕ) → opens j ≡ false → Noted p r j j
-unfolding journalImage maybe
-note-none r c = record { of = λ x e h l f. let n = book-closed h c in h .bytes ∙ rw n }
+pub note-none : (p : Profile) {j : List ℕ} (r : List ℕ) → opens j ≡ false → j ≡ withPlace p r j
+unfolding withPlace
+note-none p r c = rw c
 
 module _ {p : Profile} {j : List ℕ} (b : Roomy p j) (c : opens j ≡ true) where
   pub spacious-of : Spacious p j
@@ -234,8 +256,6 @@ module _ {p : Profile} {j : List ℕ} (b : Roomy p j) (c : opens j ≡ true) whe
     pub place-of : journalHeader + i * eventWidth p + eventWidth p ≤ length j₁
     place-of = book-open (b .holds) c _ (λ es o. place-there (b .holds) o n (b .room))
 
-    pub note-one : {r j₂ : List ℕ} → length r ≡ eventWidth p → j₂ ≡ withRecord journalHeader i r j₁ → Noted p r j j₂
-    note-one w f =
-        record {
-          of = λ x e h l g. book-open h c _ (λ es o. f ∙ rw g (place-noted h o n l e (ap length (sym g) ∙ w)));
-        }
+    pub note-one : (r : List ℕ) {j₂ : List ℕ} → j₂ ≡ withRecord journalHeader i r j₁ → j₂ ≡ withPlace p r j
+    unfolding withPlace
+    note-one r f = f ∙ sym (rw (c, sym (n .place), sym (n .bytes)))

@@ -1,17 +1,19 @@
 -- A journal in a lent buffer, and what is promised of its bytes. Assumes nothing.
 use mathlib.Core.Path.{_≡_}
-use mathlib.Core.Bool.{Bool, false, not}
+use mathlib.Core.Bool.{Bool, true, false, not, cond}
 use mathlib.Core.List.{List, [], _∷_, _++_, map}
-use mathlib.Core.Option.{none, some, Option·map}
-use Prim.Native.Nat.{ℕ, _≤_}
-use lib.ListN.{length, replicate}
+use mathlib.Core.Option.{none, Option·map}
+use Prim.Native.Nat.{ℕ, _-_, _≤_}
+use lib.Dec.{eqb, leb}
+use lib.ListN.{length, getD, replicate}
 use Rattle.values.specs.Basic.{maybe}
+use Rattle.values.specs.Area.{withRecord}
 use Rattle.areas.specs.Records.{Wide}
 use Rattle.areas.specs.Counted.{countAt, grown, Grows}
 use Rattle.rules.specs.declared.profile.Profile.{Profile}
 use Rattle.rules.specs.Profile.{Known}
 use Rattle.rules.specs.Journal.{Event, Journal, lacks}
-use Rattle.rules.specs.Pages.{journalMost, usedAt, journalHeader, eventWidth, journalLength, eventRecord, openImage, journalImage, journalPlaces}
+use Rattle.rules.specs.Pages.{journalMost, usedAt, journalHeader, eventWidth, eventRecord, journalImage, journalPlaces}
 use Rattle.laid.specs.Store.{Coded}
 
 -- a profile whose rows fit a row in flight
@@ -48,22 +50,22 @@ closedOf J = record { places = J; batch = none }
 abbrev pub noting : Event → Journal → Journal
 noting e x = record { places = x .places; batch = Option·map (λ (es : List Event). es ++ (e ∷ [])) (x .batch) }
 
--- ---- what each function says, of whichever journal the bytes are
+-- ---- as bytes
 
-pub record Tells (p : Profile) (n : ℕ) (j : List ℕ) (r : Bool) : Type 0 where
-  pub of : (x : Journal) → Journaled p x j → r ≡ not (lacks x n)
+-- byte 0 says that a batch is open
+abbrev pub opens : List ℕ → Bool
+opens j = not (eqb (getD j 0 0) 0)
 
-pub record Opens (j j₁ : List ℕ) : Type 0 where
-  pub of : (p : Profile) (J : ℕ) → j ≡ journalImage p (closedOf J) → j₁ ≡ openImage p J []
+-- no batch is open, or the open one has n more places
+unfoldable pub hasPlaces : Profile → ℕ → List ℕ → Bool
+hasPlaces p n j = cond (opens j) (leb n (journalPlaces p j - countAt usedAt 2 j)) true
 
-pub record Closes (j j₁ : List ℕ) : Type 0 where
-  pub of : (p : Profile) (J : ℕ) → length j ≡ journalLength p J → j₁ ≡ journalImage p (closedOf J)
+-- with a place more, of zeros; of bytes r while a batch is open
+unfoldable pub withZeros : Profile → List ℕ → List ℕ
+withZeros p j = grown usedAt 2 journalHeader (journalPlaces p j) (countAt usedAt 2 j) (replicate (eventWidth p) 0) j
 
--- a place of bytes r is noted
-pub record Noted (p : Profile) (r j j₁ : List ℕ) : Type 0 where
-  pub of : (x : Journal) (e : Event) → Journaled p x j → lacks x 1 ≡ false → r ≡ eventRecord p e → j₁ ≡ journalImage p (noting e x)
-
--- ---- one more place, as bytes
+unfoldable pub withPlace : Profile → List ℕ → List ℕ → List ℕ
+withPlace p r j = cond (opens j) (withRecord journalHeader (countAt usedAt 2 j) r (withZeros p j)) j
 
 pub record Spacious (p : Profile) (j : List ℕ) : Type 0 where
   pub known : Known p
@@ -72,4 +74,4 @@ pub record Spacious (p : Profile) (j : List ℕ) : Type 0 where
 
 pub record Opened (p : Profile) (j : List ℕ) (i : ℕ) (j₁ : List ℕ) : Type 0 where
   pub place : i ≡ countAt usedAt 2 j
-  pub bytes : j₁ ≡ grown usedAt 2 journalHeader (journalPlaces p j) i (replicate (eventWidth p) 0) j
+  pub bytes : j₁ ≡ withZeros p j

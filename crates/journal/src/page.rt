@@ -8,18 +8,16 @@ use values::value::Cell;
 use values::value::Text;
 use values::value::Value;
 ghost use mathlib.Core.Path.{_≡_};
-ghost use mathlib.Core.Bool.{not};
 ghost use mathlib.Core.List.{_∷_};
 ghost use Prim.Native.Nat.{_+_, _*_, _≤_};
-ghost use lib.Dec.{eqb};
-ghost use lib.ListN.{length, getD};
+ghost use lib.ListN.{length, replicate, set};
 ghost use Rattle.values.specs.Area.{withRecord};
 ghost use Rattle.values.specs.Meaning.{textBytes, Packed, meaning, Proper};
 ghost use Rattle.areas.specs.Counted.{countAt};
 ghost use Rattle.rules.specs.Profile.{rowWidth, Known};
 ghost use Rattle.rules.specs.Journal.{absent};
 ghost use Rattle.rules.specs.Pages.{usedAt, journalHeader, eventWidth, journalPlaces, eventRecord};
-ghost use Rattle.journal.specs.Page.{Paging, Paged, Roomy, Tells, Opens, Closes, Spacious, Opened, Noted};
+ghost use Rattle.journal.specs.Page.{Paging, Paged, Roomy, opens, hasPlaces, withPlace, Spacious, Opened};
 
 // The header: whether a batch is open, and how many places are in use.
 pub const USED_COUNT: usize = 1;
@@ -57,7 +55,7 @@ pub fn places_of(j: &[u8], p: Profile) -> usize
 
 pub fn is_open(j: &[u8]) -> bool
     requires { ⌜ 1 ≤ length (now j) ⌝ }
-    ensures { λ r. ⌜ r ≡ not (eqb (getD (now (j .entry)) 0 0) 0) ⌝ }
+    ensures { λ r. ⌜ r ≡ opens (now (j .entry)) ⌝ }
 {
     j[0] != 0
 }
@@ -73,7 +71,7 @@ pub fn used(j: &[u8]) -> usize
 // Whether no batch is open, or the open one has n more places.
 pub fn has_places(j: &[u8], p: Profile, n: usize) -> bool
     requires { ⌜ Paged p (now j) ⌝ }
-    ensures { λ r. ⌜ Tells p n (now (j .entry)) r ⌝ }
+    ensures { λ r. ⌜ r ≡ hasPlaces p n (now (j .entry)) ⌝ }
 {
     if !is_open(j) {
         return true;
@@ -84,14 +82,14 @@ pub fn has_places(j: &[u8], p: Profile, n: usize) -> bool
 // A batch begins: no place is in use.
 pub fn open(j: &mut [u8])
     requires { ⌜ 1 ≤ length (now j) ⌝ }
-    ensures { λ _. ⌜ Opens (now (j .entry)) (now (j .exit)) ⌝ }
+    ensures { λ _. ⌜ now (j .exit) ≡ set (now (j .entry)) 0 1 ⌝ }
 {
     j[0] = 1;
 }
 
 // A batch is over.
 pub fn close(j: &mut [u8])
-    ensures { λ _. ⌜ Closes (now (j .entry)) (now (j .exit)) ⌝ }
+    ensures { λ _. ⌜ now (j .exit) ≡ replicate (length (now (j .entry))) 0 ⌝ }
 {
     let end = j.len();
     bytes::clear(j, 0, end);
@@ -156,7 +154,7 @@ fn next_place(j: &mut [u8], p: Profile) -> usize
 // Notes, while a batch is open, that a row stood at its key.
 pub fn note_row(j: &mut [u8], p: Profile, rec: &[u8])
     requires { ⌜ Roomy p (now j) × (length (now rec) ≡ rowWidth p) ⌝ }
-    ensures { λ _. ⌜ Noted p (2 ∷ now (rec .entry)) (now (j .entry)) (now (j .exit)) ⌝ }
+    ensures { λ _. ⌜ now (j .exit) ≡ withPlace p (2 ∷ now (rec .entry)) (now (j .entry)) ⌝ }
 {
     if !is_open(j) {
         return;
@@ -168,7 +166,7 @@ pub fn note_row(j: &mut [u8], p: Profile, rec: &[u8])
 // Notes, while a batch is open, that nothing stood at a key.
 pub fn note_absent(j: &mut [u8], p: Profile, name: Text, key: Value)
     requires { ⌜ Roomy p (now j) × Packed name × Proper key ⌝ }
-    ensures { λ _. ⌜ Noted p (eventRecord p (absent (textBytes name) (meaning key))) (now (j .entry)) (now (j .exit)) ⌝ }
+    ensures { λ _. ⌜ now (j .exit) ≡ withPlace p (eventRecord p (absent (textBytes name) (meaning key))) (now (j .entry)) ⌝ }
 {
     if !is_open(j) {
         return;

@@ -1,5 +1,5 @@
 -- `journal::page::has_places` meets its contract. Assumes nothing.
-use Rattle.journal.proofs.Noting.{told-closed, told-open, used-few, book-long}
+use Rattle.journal.proofs.Noting.{places-closed, places-open, used-few, book-long}
 use mathlib.Core.Path.{sym, _∙_}
 use borrow.Author.Tests.{not-true, not-false}
 use native.Mathlib.Omega.{arith}
@@ -10,7 +10,7 @@ is-open-requires : tie.Need-is-open-requires
 is-open-requires c κs = let b = c .before in omega (arith, book-long (b .pre .holds))
 
 returns : tie.Need-returns
-returns c = let b = c .before .before .before in told-closed (b .args .n) (sym (c .before .is-open .ensures) ∙ not-true _ (c .if1 .taken))
+returns c = let b = c .before .before .before in places-closed (b .args .p) (b .args .j .now) (b .args .n) (sym (c .before .is-open .ensures) ∙ not-true _ (c .if1 .taken))
 
 places-of-requires : tie.Need-places-of-requires
 places-of-requires c κs = let b = c .before .before .before in (b .pre .holds .paging .coded .known, book-long (b .pre .holds))
@@ -22,7 +22,7 @@ sub-result : tie.Need-sub-result
 sub-result c = let b = c .before .before .before .before .before in used-few (b .pre) (sym (c .before .before .before .is-open .ensures) ∙ not-false _ (c .before .before .if1 .left)) (c .before .places-of .ensures) (c .used .ensures)
 
 returns-2 : tie.Need-returns-2
-returns-2 c = let b = c .before .before .before .before .before in told-open (b .pre) (sym (c .before .before .before .is-open .ensures) ∙ not-false _ (c .before .before .if1 .left)) (c .before .places-of .ensures) (c .used .ensures) (b .args .n)
+returns-2 c = let b = c .before .before .before .before .before in places-open (b .pre) (sym (c .before .before .before .is-open .ensures) ∙ not-false _ (c .before .before .if1 .left)) (c .before .places-of .ensures) (c .used .ensures) (b .args .n)
 
 pub has-places-spec : {M : Type 1} → statement M
 has-places-spec =

@@ -3,6 +3,7 @@ use mathlib.Core.Path.{_∙_}
 use borrow.Author.Needs.{needs}
 use Rattle.journal.proofs.page.next_place.Statement.{statement}
 use Rattle.journal.proofs.page.next_place.Tie as tie
+use Rattle.journal.specs.Page.{withZeros}
 
 used-requires : tie.Need-used-requires
 used-requires c κs = search needs
@@ -20,7 +21,8 @@ same-length : tie.Need-same-length
 same-length c = search needs
 
 returns : tie.Need-returns
-returns c = let b = c .before .before .before .before .before .before .before .before .before .before in record { place = c .before .before .before .before .before .before .before .used .ensures; bytes = c .before .before .open-counted .ensures ∙ rw (c .before .before .before .before .places-of .ensures, c .before .before .before .before .before .before .event-width .ensures) }
+unfolding withZeros
+returns c = let b = c .before .before .before .before .before .before .before .before .before .before in record { place = c .before .before .before .before .before .before .before .used .ensures; bytes = c .before .before .open-counted .ensures ∙ rw (c .before .before .before .before .before .before .before .used .ensures, c .before .before .before .before .places-of .ensures, c .before .before .before .before .before .before .event-width .ensures) }
 
 pub next-place-spec : {M : Type 1} → statement M
 next-place-spec =

@@ -1,5 +1,4 @@
 -- `journal::page::note_row` meets its contract. Assumes nothing.
-use Rattle.journal.proofs.Writing.{row-place}
 use Rattle.journal.proofs.Noting.{book-long, spacious-of, place-of, note-none, note-one}
 use borrow.Author.Tests.{not-true, not-false}
 use mathlib.Core.Path.{sym, _∙_}
@@ -15,7 +14,7 @@ same-length : tie.Need-same-length
 same-length c = search needs
 
 returns : tie.Need-returns
-returns c = let b = c .before .before .before .before .before in note-none _ (sym (c .before .is-open .ensures) ∙ not-true _ (c .if1 .taken))
+returns c = let b = c .before .before .before .before .before in note-none (b .args .p) _ (sym (c .before .is-open .ensures) ∙ not-true _ (c .if1 .taken))
 
 next-place-requires : tie.Need-next-place-requires
 next-place-requires c κs = let b = c .before .before .before .before .before .before in spacious-of (b .pre .0) (sym (c .before .before .is-open .ensures) ∙ not-false _ (c .before .if1 .left))
@@ -27,7 +26,7 @@ same-length-2 : tie.Need-same-length-2
 same-length-2 c = search needs
 
 returns-2 : tie.Need-returns-2
-returns-2 c = let b = c .before .before .before .before .before .before .before .before .before .before .before .before .before in note-one (b .pre .0) (sym (c .before .before .before .before .before .before .before .before .before .is-open .ensures) ∙ not-false _ (c .before .before .before .before .before .before .before .before .if1 .left)) (c .before .before .before .before .before .before .next-place .ensures) (row-place (b .args .p) (b .args .rec .now) (b .pre .1)) (c .before .before .put-row .ensures)
+returns-2 c = let b = c .before .before .before .before .before .before .before .before .before .before .before .before .before in note-one (b .pre .0) (sym (c .before .before .before .before .before .before .before .before .before .is-open .ensures) ∙ not-false _ (c .before .before .before .before .before .before .before .before .if1 .left)) (c .before .before .before .before .before .before .next-place .ensures) _ (c .before .before .put-row .ensures)
 
 pub note-row-spec : {M : Type 1} → statement M
 note-row-spec =
