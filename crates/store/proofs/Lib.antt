@@ -3,6 +3,8 @@ pub mod References
 pub mod Outcomes
 pub mod Dropped
 pub mod Created
+pub mod Settling
+pub mod RemovalsCounted
 pub mod KeysRemoved
 pub mod Lookups
 pub mod Written

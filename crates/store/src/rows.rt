@@ -1,9 +1,13 @@
-// Writes of rows (local.rs: `insert`, `update`, `delete`): one full row, one pair, a request's keys.
+// Writes of rows (local.rs: `insert`, `update`, `delete`): one full row, one pair, a request's keys. While a batch is open, what stood at a key is noted
+// before the row is changed.
+use super::noting;
+use super::removals;
 use super::schema;
 use changes::change;
 use checks::row_fault;
 use forms::read;
 use forms::read::ReadCell;
+use journal::page;
 use laid::catalog;
 use laid::catalog::Found;
 use laid::layout;
@@ -25,34 +29,48 @@ ghost use lib.ListN.{length};
 ghost use Rattle.values.specs.Meaning.{textBytes, Packed, meaning, Proper};
 ghost use Rattle.values.specs.Basic.{isNil};
 ghost use Rattle.rules.specs.Layout.{parse};
+ghost use Rattle.rules.specs.Pages.{booksOf};
 ghost use Rattle.rules.specs.Step.{numbered, insertRow, delete as deleted, sameKey, otherKey, pair};
-ghost use Rattle.laid.specs.Store.{LaidStore, Store, Stored};
 ghost use Rattle.laid.specs.Row.{cellsOf, tableIn, FullRow};
+ghost use Rattle.journal.specs.Books.{LaidBooks, Booked, Settled};
 ghost use Rattle.checks.specs.Keys.{valuesFrom};
-ghost use Rattle.store.specs.Removed.{removalsIn, Removes, pairOf};
+ghost use Rattle.store.specs.Removed.{removalsIn, Removes, RoomFor, pairOf};
 
-// Adds a full row, the request's row number n, to the table at place t: 26, 27; each column 28 to 31; 33.
-pub fn insert(s: &mut [u8], p: Profile, places: usize, t: usize, n: usize, row: Row) -> Answer
-    requires { ⌜ Store p places (now s) × FullRow p places (now s) t row ⌝ }
-    ensures { λ r. ⌜ Stored p places (numbered n (insertRow p places (tableIn p places (now (s .entry)) t) (parse p places (now (s .entry))) (cellsOf row))) (now (s .entry)) (now (s .exit)) r ⌝ }
+// Adds a full row, the request's row number n, to the table at place t: 26, 27; each column 28 to 31; 33; 43.
+pub fn insert(
+    s: &mut [u8],
+    p: Profile,
+    places: usize,
+    j: &mut [u8],
+    t: usize,
+    n: usize,
+    row: Row,
+) -> Answer
+    requires { ⌜ Booked p places (now s) (now j) × FullRow p places (now s) t row ⌝ }
+    ensures { λ r. ⌜ Settled p places (numbered n (insertRow p places (tableIn p places (now (s .entry)) t) (booksOf p places (now (s .entry)) (now (j .entry))) (cellsOf row))) (now (s .entry)) (now (j .entry)) (now (s .exit)) (now (j .exit)) r ⌝ }
 {
     let k = schema::validate_row(s, p, places, t, row, false);
     if !answer::is_accepted(k) {
         return answer::refused(k, n);
     }
+    if !page::has_places(j, p, 1) {
+        return answer::refused(Refusal::JournalFull, n);
+    }
+    noting::note_new(s, p, places, j, t, row);
     change::add_row(s, p, places, t, row);
     answer::accepted(1)
 }
 
 // Takes out the row with the key of the table at place t, if there is one.
-fn remove_key(s: &mut [u8], p: Profile, places: usize, t: usize, key: Value) -> bool
-    requires { ⌜ LaidStore p places (now s) × (t < length ((parse p places (now s)) .tables)) × Proper key ⌝ }
-    ensures { λ r. ⌜ Removes p places (now (s .entry)) t (meaning key ∷ []) (now (s .exit)) × (r ≡ not (isNil (removalsIn p places (now (s .entry)) t (meaning key ∷ [])))) ⌝ }
+fn remove_key(s: &mut [u8], p: Profile, places: usize, j: &mut [u8], t: usize, key: Value) -> bool
+    requires { ⌜ LaidBooks p places (now s) (now j) × (t < length ((parse p places (now s)) .tables)) × Proper key × RoomFor p places (now s) (now j) t (meaning key ∷ []) ⌝ }
+    ensures { λ r. ⌜ Removes p places (now (s .entry)) (now (j .entry)) t (meaning key ∷ []) (now (s .exit)) (now (j .exit)) × (r ≡ not (isNil (removalsIn p places (now (s .entry)) t (meaning key ∷ [])))) ⌝ }
 {
     let name = cell::read_name(layout::table_record(s, p, places, t));
     let column = catalog::key_column(layout::table_record(s, p, places, t));
     match row::find_row(s, p, places, name, column, key) {
         Found::At(i) => {
+            noting::note_stored(s, p, places, j, i);
             change::remove_row(s, p, places, t, i);
             true
         }
@@ -65,13 +83,14 @@ fn remove_keys(
     s: &mut [u8],
     p: Profile,
     places: usize,
+    j: &mut [u8],
     t: usize,
     rec: &[u8],
     at: usize,
     count: usize,
 ) -> usize
-    requires { ⌜ LaidStore p places (now s) × (t < length ((parse p places (now s)) .tables)) ⌝ }
-    ensures { λ r. ⌜ Removes p places (now (s .entry)) t (valuesFrom (now (rec .entry)) count at) (now (s .exit)) × (r ≡ length (valuesFrom (now (rec .entry)) count at)) ⌝ }
+    requires { ⌜ LaidBooks p places (now s) (now j) × (t < length ((parse p places (now s)) .tables)) × RoomFor p places (now s) (now j) t (valuesFrom (now rec) count at) ⌝ }
+    ensures { λ r. ⌜ Removes p places (now (s .entry)) (now (j .entry)) t (valuesFrom (now (rec .entry)) count at) (now (s .exit)) (now (j .exit)) × (r ≡ length (valuesFrom (now (rec .entry)) count at)) ⌝ }
 {
     let mut left = count;
     let mut next = at;
@@ -79,7 +98,7 @@ fn remove_keys(
         match read::value_at(rec, next) {
             ReadCell::Got { cell, next: end } => {
                 let key = cell.value;
-                remove_key(s, p, places, t, key);
+                remove_key(s, p, places, j, t, key);
                 next = end;
             }
             ReadCell::Broken(_) => {
@@ -91,18 +110,19 @@ fn remove_keys(
     count
 }
 
-// Removes the rows with the `count` keys from `at` on in a record: 2; 32, tested before anything is removed.
+// Removes the rows with the `count` keys from `at` on in a record: 2; 32, 43, tested before anything is removed.
 pub fn delete(
     s: &mut [u8],
     p: Profile,
     places: usize,
+    j: &mut [u8],
     name: Text,
     rec: &[u8],
     at: usize,
     count: usize,
 ) -> Answer
-    requires { ⌜ Store p places (now s) × Packed name ⌝ }
-    ensures { λ r. ⌜ Stored p places (deleted (parse p places (now (s .entry))) (textBytes name) (valuesFrom (now (rec .entry)) count at)) (now (s .entry)) (now (s .exit)) r ⌝ }
+    requires { ⌜ Booked p places (now s) (now j) × Packed name ⌝ }
+    ensures { λ r. ⌜ Settled p places (deleted (booksOf p places (now (s .entry)) (now (j .entry))) (textBytes name) (valuesFrom (now (rec .entry)) count at)) (now (s .entry)) (now (j .entry)) (now (s .exit)) (now (j .exit)) r ⌝ }
 {
     let Found::At(t) = catalog::get_table(s, p, places, name) else {
         return answer::refused(Refusal::UnknownTable, 0);
@@ -113,17 +133,31 @@ pub fn delete(
         let key = k.value;
         return answer::carrying(Refusal::RowReferenced, 0, r.table, r.column, key);
     }
-    answer::accepted(remove_keys(s, p, places, t, rec, at, count))
+    if removals::lacks_places(s, p, places, j, t, rec, at, count) {
+        return answer::refused(Refusal::JournalFull, 0);
+    }
+    answer::accepted(remove_keys(s, p, places, j, t, rec, at, count))
 }
 
-// A row in place of the stored one with its key: 26; each column 28 to 31; 34.
-fn same_key(s: &mut [u8], p: Profile, places: usize, t: usize, n: usize, row: Row) -> Answer
-    requires { ⌜ Store p places (now s) × FullRow p places (now s) t row ⌝ }
-    ensures { λ r. ⌜ Stored p places (numbered n (sameKey p places (tableIn p places (now (s .entry)) t) (parse p places (now (s .entry))) (cellsOf row))) (now (s .entry)) (now (s .exit)) r ⌝ }
+// A row in place of the stored one with its key: 26; each column 28 to 31; 34; 43.
+fn same_key(
+    s: &mut [u8],
+    p: Profile,
+    places: usize,
+    j: &mut [u8],
+    t: usize,
+    n: usize,
+    row: Row,
+) -> Answer
+    requires { ⌜ Booked p places (now s) (now j) × FullRow p places (now s) t row ⌝ }
+    ensures { λ r. ⌜ Settled p places (numbered n (sameKey p places (tableIn p places (now (s .entry)) t) (booksOf p places (now (s .entry)) (now (j .entry))) (cellsOf row))) (now (s .entry)) (now (j .entry)) (now (s .exit)) (now (j .exit)) r ⌝ }
 {
     let f = schema::validate_row(s, p, places, t, row, true);
     if !answer::is_accepted(f) {
         return answer::refused(f, n);
+    }
+    if !page::has_places(j, p, 1) {
+        return answer::refused(Refusal::JournalFull, n);
     }
     let name = cell::read_name(layout::table_record(s, p, places, t));
     let column = catalog::key_column(layout::table_record(s, p, places, t));
@@ -133,15 +167,17 @@ fn same_key(s: &mut [u8], p: Profile, places: usize, t: usize, n: usize, row: Ro
     let Found::At(i) = row::find_row(s, p, places, name, column, key) else {
         return answer::accepted(1);
     };
+    noting::note_stored(s, p, places, j, i);
     change::replace_row(s, p, places, t, i, row);
     answer::accepted(1)
 }
 
-// A delete of the old key, which stands at `at` in a record, and then an insert: 32; after it what refuses an insert, with GONE where a row went.
+// A delete of the old key, which stands at `at` in a record, and then an insert: 32, 43; after it what refuses an insert, with GONE where a row went.
 fn other_key(
     s: &mut [u8],
     p: Profile,
     places: usize,
+    j: &mut [u8],
     t: usize,
     n: usize,
     rec: &[u8],
@@ -149,8 +185,8 @@ fn other_key(
     old: Value,
     row: Row,
 ) -> Answer
-    requires { ⌜ Store p places (now s) × FullRow p places (now s) t row × Proper old × (valuesFrom (now rec) 1 at ≡ meaning old ∷ []) ⌝ }
-    ensures { λ r. ⌜ Stored p places (numbered n (otherKey p places (tableIn p places (now (s .entry)) t) (parse p places (now (s .entry))) (pairOf old row))) (now (s .entry)) (now (s .exit)) r ⌝ }
+    requires { ⌜ Booked p places (now s) (now j) × FullRow p places (now s) t row × Proper old × (valuesFrom (now rec) 1 at ≡ meaning old ∷ []) ⌝ }
+    ensures { λ r. ⌜ Settled p places (numbered n (otherKey p places (tableIn p places (now (s .entry)) t) (booksOf p places (now (s .entry)) (now (j .entry))) (pairOf old row))) (now (s .entry)) (now (j .entry)) (now (s .exit)) (now (j .exit)) r ⌝ }
 {
     let name = cell::read_name(layout::table_record(s, p, places, t));
     let r = referrer::row_references(s, p, places, name, rec, at, 1);
@@ -159,8 +195,11 @@ fn other_key(
         let key = k.value;
         return answer::carrying(Refusal::RowReferenced, n, r.table, r.column, key);
     }
-    let gone = remove_key(s, p, places, t, old);
-    let a = insert(s, p, places, t, n, row);
+    if removals::lacks_places(s, p, places, j, t, rec, at, 1) {
+        return answer::refused(Refusal::JournalFull, n);
+    }
+    let gone = remove_key(s, p, places, j, t, old);
+    let a = insert(s, p, places, j, t, n, row);
     let kind = a.kind;
     if answer::is_accepted(kind) {
         return a;
@@ -173,6 +212,7 @@ pub fn update(
     s: &mut [u8],
     p: Profile,
     places: usize,
+    j: &mut [u8],
     t: usize,
     n: usize,
     rec: &[u8],
@@ -180,15 +220,15 @@ pub fn update(
     old: Value,
     row: Row,
 ) -> Answer
-    requires { ⌜ Store p places (now s) × FullRow p places (now s) t row × Proper old × (valuesFrom (now rec) 1 at ≡ meaning old ∷ []) ⌝ }
-    ensures { λ r. ⌜ Stored p places (numbered n (pair p places (tableIn p places (now (s .entry)) t) (parse p places (now (s .entry))) (pairOf old row))) (now (s .entry)) (now (s .exit)) r ⌝ }
+    requires { ⌜ Booked p places (now s) (now j) × FullRow p places (now s) t row × Proper old × (valuesFrom (now rec) 1 at ≡ meaning old ∷ []) ⌝ }
+    ensures { λ r. ⌜ Settled p places (numbered n (pair p places (tableIn p places (now (s .entry)) t) (booksOf p places (now (s .entry)) (now (j .entry))) (pairOf old row))) (now (s .entry)) (now (j .entry)) (now (s .exit)) (now (j .exit)) r ⌝ }
 {
     let column = catalog::key_column(layout::table_record(s, p, places, t));
     let cells = row.cells;
     let k = cells[column];
     let key = k.value;
     if row_fault::is_same(old, key) {
-        return same_key(s, p, places, t, n, row);
+        return same_key(s, p, places, j, t, n, row);
     }
-    other_key(s, p, places, t, n, rec, at, old, row)
+    other_key(s, p, places, j, t, n, rec, at, old, row)
 }

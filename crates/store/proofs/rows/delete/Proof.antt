@@ -1,43 +1,42 @@
 -- `store::rows::delete` meets its contract. Assumes nothing.
-use mathlib.Core.Path.{_≡_}
+use mathlib.Core.Path.{_≡_, sym, _∙_}
 use mathlib.Core.List.{List}
 use mathlib.Core.Option.{some}
-use borrow.Author.Needs.{needs}
 use Rattle.values.specs.Value.{Value}
 use Rattle.values.specs.Meaning.{textBytes}
 use Rattle.rules.specs.State.{isNamed}
 use Rattle.rules.specs.Layout.{parse}
 use Rattle.laid.specs.Catalog.{placeOf}
+use Rattle.laid.proofs.Stores.{store-catalog}
+use Rattle.journal.proofs.Booking.{laid-books}
 use Rattle.checks.specs.Keys.{valuesFrom}
-use Rattle.store.proofs.KeysRemoved.{delete-missed, delete-held, delete-goes}
+use Rattle.store.specs.Removed.{RoomFor}
+use Rattle.store.proofs.KeysRemoved.{delete-missed, delete-held, delete-lacks, delete-goes}
 use Rattle.store.proofs.Lookups.{table-known}
 use Rattle.store.proofs.References.{answer-is}
-use Rattle.laid.proofs.Stores.{laid-store, store-catalog}
+use borrow.Author.Needs.{needs}
 use Rattle.store.proofs.rows.delete.Statement.{statement}
 use Rattle.store.proofs.rows.delete.Tie as tie
-
--- where the function began, and the keys
-abbrev start : tie.After-get-table → tie.Start
-start c = c .before .before .before .before
 
 abbrev keys : tie.Start → List Value
 keys b = valuesFrom (b .args .rec .now) (b .args .count) (b .args .at)
 
 -- the table at place t has the name
 known : (c : tie.After-t) →
-    let a = (start (c .before .before)) .args in
+    let a = (c .before .before .before .before .before .before .before) .args in
     some (c .t .given .0 .0) ≡ placeOf (isNamed (textBytes (a .name))) ((parse (a .p) (a .places) (a .s .now)) .tables)
 known c = answer-is (c .t .given .1) (c .before .before .get-table .ensures)
 
--- the step back from the search for a reference
-abbrev place : tie.After-row-references → tie.After-t
-place c = c .before .before .before
+room : (c : tie.Else2) →
+    let b = c .before .before .before .before .before .before .before .before .before .before .before .before .before .before .before in
+    RoomFor (b .args .p) (b .args .places) (b .args .s .now) (b .args .j .now) (c .before .before .before .before .before .before .before .before .t .given .0 .0) (keys b)
+room c = sym (c .before .lacks-places .ensures) ∙ c .if2 .left
 
 get-table-requires : tie.Need-get-table-requires
 get-table-requires c κs =
-    let b = c .before .before .before in
+    let b = c .before .before .before .before in
     let a = b .args in
-    (store-catalog (a .p) (a .places) (a .s .now) (b .pre .0), b .pre .1)
+    (store-catalog (a .p) (a .places) (a .s .now) (b .pre .0 .store), b .pre .1)
 
 enum-known-t : tie.Need-enum-known-t
 enum-known-t c = search needs
@@ -53,18 +52,14 @@ same-length c = search needs
 
 returns : tie.Need-returns
 returns c =
-    let g = c .before .before .before in
-    let b = start g in
-    let a = b .args in
-    delete-missed (a .p) (a .places) (a .s .now) (b .pre .0) (textBytes (a .name)) (keys b) (answer-is (c .before .enum-told .given .1) (g .get-table .ensures))
-    (c .refused .result)
+    let b = c .before .before .before .before .before .before .before .before in
+    delete-missed (b .pre .0) (textBytes (b .args .name)) (keys b) (answer-is (c .before .enum-told .given .1) (c .before .before .before .get-table .ensures)) (c .refused .result)
     (c .refused .ensures)
 
 row-references-requires : tie.Need-row-references-requires
 row-references-requires c κs =
-    let b = start (c .before .before .before .before) in
-    let a = b .args in
-    (laid-store (a .p) (a .places) (a .s .now) (b .pre .0), b .pre .1)
+    let b = c .before .before .before .before .before .before .before .before .before in
+    (laid-books (b .pre .0) .store, b .pre .1)
 
 carrying-requires : tie.Need-carrying-requires
 carrying-requires c κs = search needs
@@ -74,46 +69,55 @@ same-length-2 c = search needs
 
 returns-2 : tie.Need-returns-2
 returns-2 c =
-    let r = c .before .before .before in
-    let t = place r in
-    let b = start (t .before .before) in
-    let a = b .args in
-    delete-held (a .p) (a .places) (a .s .now) (b .pre .0) (textBytes (a .name)) (keys b) (t .t .given .0 .0) (known t) (r .row-references .result)
-    (r .row-references .ensures .0)
-    (c .before .before .if1 .taken)
-    (c .carrying .result)
+    let b = c .before .before .before .before .before .before .before .before .before .before .before .before .before in
+    let r = c .before .before .before .row-references in
+    delete-held (b .pre .0) (textBytes (b .args .name)) (keys b) (c .before .before .before .before .before .before .t .given .0 .0) (known (c .before .before .before .before .before .before)) (r .result) (r .ensures .0) (c .before .before .if1 .taken) (c .carrying .result)
     (c .carrying .ensures)
 
-remove-keys-requires : tie.Need-remove-keys-requires
-remove-keys-requires c κs =
-    let t = place (c .before .before) in
-    let b = start (t .before .before) in
-    let a = b .args in (
-      laid-store (a .p) (a .places) (a .s .now) (b .pre .0),
-      table-known (a .p) (a .places) (a .s .now) (textBytes (a .name)) (t .t .given .0 .0) (known t),
-    )
+lacks-places-requires : tie.Need-lacks-places-requires
+lacks-places-requires c κs =
+    let b = c .before .before .before .before .before .before .before .before .before .before .before .before .before in
+    let a = b .args in
+    (laid-books (b .pre .0), table-known (a .p) (a .places) (a .s .now) (textBytes (a .name)) (c .before .before .before .before .before .before .t .given .0 .0) (known (c .before .before .before .before .before .before)))
 
-accepted-requires : tie.Need-accepted-requires
-accepted-requires c κs = search needs
+refused-requires-2 : tie.Need-refused-requires-2
+refused-requires-2 c κs = search needs
 
 same-length-3 : tie.Need-same-length-3
 same-length-3 c = search needs
 
+same-length-4 : tie.Need-same-length-4
+same-length-4 c = search needs
+
 returns-3 : tie.Need-returns-3
 returns-3 c =
-    let k = c .before .before .before in
-    let e = k .before .before in
-    let r = e .before in
-    let t = place r in
-    let b = start (t .before .before) in
+    let b = c .before .before .before .before .before .before .before .before .before .before .before .before .before .before .before .before in
+    let r = c .before .before .before .before .before .before .row-references in
+    delete-lacks (b .pre .0) (textBytes (b .args .name)) (keys b) (c .before .before .before .before .before .before .before .before .before .t .given .0 .0) (known (c .before .before .before .before .before .before .before .before .before)) (r .result) (r .ensures .0) (c .before .before .before .before .before .if1 .left)
+    (sym (c .before .before .lacks-places .ensures) ∙ c .before .if2 .taken) (c .refused2 .result)
+    (c .refused2 .ensures)
+
+remove-keys-requires : tie.Need-remove-keys-requires
+remove-keys-requires c κs =
+    let b = c .before .before .before .before .before .before .before .before .before .before .before .before .before .before .before .before .before in
     let a = b .args in
-    delete-goes (a .p) (a .places) (a .s .now) (b .pre .0) (textBytes (a .name)) (keys b) (t .t .given .0 .0) (known t) (r .row-references .result)
-    (r .row-references .ensures .0)
-    (e .if1 .left)
-    (k .remove-keys .last .0)
-    (k .remove-keys .result)
-    (k .remove-keys .ensures)
-    (c .accepted .result)
+    (laid-books (b .pre .0), table-known (a .p) (a .places) (a .s .now) (textBytes (a .name)) (c .before .before .before .before .before .before .before .before .before .before .t .given .0 .0) (known (c .before .before .before .before .before .before .before .before .before .before)), room (c .before .before))
+
+accepted-requires : tie.Need-accepted-requires
+accepted-requires c κs = search needs
+
+same-length-5 : tie.Need-same-length-5
+same-length-5 c = search needs
+
+same-length-6 : tie.Need-same-length-6
+same-length-6 c = search needs
+
+returns-4 : tie.Need-returns-4
+returns-4 c =
+    let b = c .before .before .before .before .before .before .before .before .before .before .before .before .before .before .before .before .before .before .before .before .before .before .before in
+    let r = c .before .before .before .before .before .before .before .before .before .before .before .before .before .row-references in
+    delete-goes (b .pre .0) (textBytes (b .args .name)) (keys b) (c .before .before .before .before .before .before .before .before .before .before .before .before .before .before .before .before .t .given .0 .0) (known (c .before .before .before .before .before .before .before .before .before .before .before .before .before .before .before .before)) (r .result) (r .ensures .0) (c .before .before .before .before .before .before .before .before .before .before .before .before .if1 .left) (room (c .before .before .before .before .before .before .before .before))
+    (c .before .before .before .before .before .remove-keys .ensures) (c .accepted .result)
     (c .accepted .ensures)
 
 pub delete-spec : {M : Type 1} → statement M
@@ -130,7 +134,13 @@ delete-spec =
     carrying-requires
     same-length-2
     returns-2
+    lacks-places-requires
+    refused-requires-2
+    same-length-3
+    same-length-4
+    returns-3
     remove-keys-requires
     accepted-requires
-    same-length-3
-    returns-3)
+    same-length-5
+    same-length-6
+    returns-4)

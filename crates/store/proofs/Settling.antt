@@ -1,0 +1,98 @@
+-- A store and its journal under a write: how many places there are left, what is noted, both as they were, and both laid out after rows went.
+-- Assumes nothing.
+-- ---- places left
+-- room for more is room for fewer
+use Prim.Native.Nat.{ℕ, _≤_}
+use native.Mathlib.Omega.{arith}
+use mathlib.Core.Path.{_≡_, refl, sym, _∙_, ap, subst}
+use mathlib.Core.Bool.{Bool, true, false, not}
+use mathlib.Core.List.{List, [], _∷_, _++_}
+use mathlib.Core.Option.{Option, none, some, Option·map}
+use lib.ListN.{length, length-append}
+use borrow.Author.Tests.{not-true, not-false}
+use Rattle.values.specs.Basic.{maybe}
+use Rattle.values.specs.Value.{Value}
+use Rattle.rules.specs.declared.profile.Profile.{Profile}
+use Rattle.rules.specs.declared.answer.Answer.{Answer}
+use Rattle.rules.specs.State.{Name, Row}
+use Rattle.rules.specs.Journal.{Event, absent, stood, Journal, lacks, Books}
+use Rattle.rules.specs.Request.{Reply, said}
+use Rattle.rules.specs.Step.{Outcome, refused, applyAll, noteAll}
+use Rattle.rules.specs.Sound.{every, goodEvent}
+use Rattle.rules.specs.Layout.{rowRecord}
+use Rattle.rules.specs.Pages.{eventRecord, journalImage, booksOf}
+use Rattle.rules.proofs.Tests.{and-left, and-right, and-both, every-of}
+use Rattle.rules.proofs.Valid.{LaidState}
+use Rattle.rules.proofs.Backed.{More, has-place, place-had}
+use Rattle.journal.specs.Page.{Paged, Roomy, noting, Tells, Noted}
+use Rattle.journal.specs.Books.{LaidBooks, Booked, Settled}
+use Rattle.journal.proofs.Booking.{LaidPages, booked-bytes, journaled}
+
+pub lacks-fewer : (j : Journal) (m n : ℕ) → m ≤ n → lacks j n ≡ false → lacks j m ≡ false
+lacks-fewer j m n h l = place-had j m (λ es e. omega (arith, h, has-place j es n e l))
+
+module _ {p : Profile} {R : ℕ} {s j : List ℕ} (b : LaidBooks p R s j) where
+  pub paged-of : Paged p j
+  paged-of = record { journal = (booksOf p R s j) .journal; holds = journaled b }
+
+  pub has-room : {n : ℕ} {r : Bool} → Tells p n j r → r ≡ true → lacks ((booksOf p R s j) .journal) n ≡ false
+  has-room e h = not-true _ (sym (e .of ((booksOf p R s j) .journal) (journaled b)) ∙ h)
+
+  pub no-room : {n : ℕ} {r : Bool} → Tells p n j r → r ≡ false → lacks ((booksOf p R s j) .journal) n ≡ true
+  no-room e h = not-false _ (sym (e .of ((booksOf p R s j) .journal) (journaled b)) ∙ h)
+
+  pub told-lacks : {m n : ℕ} {r : Bool} → Tells p m j r → m ≡ n → not r ≡ lacks ((booksOf p R s j) .journal) n
+  told-lacks {m} {n} e f =
+      ap not (e .of ((booksOf p R s j) .journal) (journaled b) ∙ ap (λ (k : ℕ). not (lacks ((booksOf p R s j) .journal) k)) f) ∙ twice (lacks ((booksOf p R s j) .journal) n)
+    where
+      twice : (x : Bool) → not (not x) ≡ x
+      twice true = refl
+      twice false = refl
+
+  module _ (l : lacks ((booksOf p R s j) .journal) 1 ≡ false) where
+    pub roomy-of : Roomy p j
+    roomy-of = record { journal = (booksOf p R s j) .journal; holds = journaled b; room = l }
+
+    pub noted-is : (e : Event) {j₁ : List ℕ} → Noted p (eventRecord p e) j j₁ → j₁ ≡ journalImage p (noting e ((booksOf p R s j) .journal))
+    noted-is e n = n .of ((booksOf p R s j) .journal) e (journaled b) l refl
+
+-- ---- what is noted, as the code has it: a record's bytes, a name and a key
+
+module _ {p : Profile} {j j₁ : List ℕ} where
+  pub noted-row : {l : List ℕ} (r : Row) → l ≡ rowRecord p r → Noted p (2 ∷ l) j j₁ → Noted p (eventRecord p (stood r)) j j₁
+  unfolding eventRecord
+  noted-row r e h = subst (λ (l : List ℕ). Noted p (2 ∷ l) j j₁) e h
+
+  pub noted-key : {m n : Name} {k v : Value} → m ≡ n → k ≡ v → Noted p (eventRecord p (absent m k)) j j₁ → Noted p (eventRecord p (absent n v)) j j₁
+  noted-key {m} {n} {k} {v} e f h = subst (λ (x : Event). Noted p (eventRecord p x) j j₁) (rw (e, f) refl) h
+
+-- ---- both stay as they are
+
+pub left-alone : {p : Profile} {R : ℕ} {s j : List ℕ} → Booked p R s j → (o : Outcome) (r : Reply) → o ≡ refused r → (a : Answer) → said a ≡ r → Settled p R o s j s j a
+unfolding applyAll noteAll
+left-alone b o r e a h = rw e (record { answer = h; bytes = booked-bytes b })
+
+-- ---- rows changed, and noted
+
+every-append : {A : Type 0} (f : A → Bool) (xs ys : List A) → every f xs ≡ true → every f ys ≡ true → every f (xs ++ ys) ≡ true
+unfolding every
+every-append f [] ys h k = k
+every-append f (x ∷ xs) ys h k = and-both (and-left (f x) _ h) (every-append f xs ys (and-right (f x) _ h) k)
+
+module _ {p : Profile} {R : ℕ} {b z : Books} (l : LaidPages p R b) (x : More R b z) (v : LaidState p R (z .store)) where
+  pub more-pages : LaidPages p R z
+  unfolding maybe every
+  more-pages = go (b .journal .batch) refl
+    where
+      go : (o : Option (List Event)) → b .journal .batch ≡ o → LaidPages p R z
+      go none e =
+          let f : z .journal .batch ≡ none = x .batch ∙ ap (Option·map (λ (es : List Event). es ++ x .notes)) e in
+          record { store = v; most = rw (x .places) (l .most); few = rw f (omega arith); good = rw f refl }
+      go (some es) e =
+          let f : z .journal .batch ≡ some (es ++ x .notes) = x .batch ∙ ap (Option·map (λ (es : List Event). es ++ x .notes)) e in
+          record {
+            store = v;
+            most = rw (x .places) (l .most);
+            few = rw f (omega (arith, has-place (b .journal) es (length (x .notes)) e (x .few), length-append es (x .notes), x .places));
+            good = rw f (rw (x .tables) (every-append (goodEvent (b .store .tables)) es (x .notes) (rw e at (l .good)) (every-of (goodEvent (b .store .tables)) (x .notes) (x .good))));
+          }
