@@ -22,7 +22,7 @@ use Rattle.rules.specs.declared.profile.Profile.{Profile}
 use Rattle.rules.specs.Journal.{Event, Journal, lacks}
 use Rattle.rules.specs.Pages.{journalMost, usedAt, journalHeader, eventWidth, journalLength, eventRecord, openImage, journalImage, journalPlaces}
 use Rattle.rules.proofs.Paged.{places-back}
-use Rattle.journal.specs.Page.{Journaled, Paged, Roomy, noting, Spacious, Opened, opens, hasPlaces, withZeros, withPlace, closedOf}
+use Rattle.journal.specs.Page.{Journaled, Paged, Roomy, noting, Spacious, Opened, opens, hasPlaces, withZeros, withPlace, closedOf, Noted}
 
 first-zero : (n : ℕ) → getD {A = ℕ} (replicate n 0) 0 0 ≡ 0
 first-zero zero = refl
@@ -200,12 +200,12 @@ module _ {p : Profile} {x : Journal} {j : List ℕ} (h : Journaled p x j) where
       go true c = book-open h c _ (λ es o. rw (book-places h, book-used h o) (enough (x .places) (length es) (o .few)) ∙ ap not (sym (lacks-is h o n)))
       go false c = sym (ap not (closed-lacks h n c))
 
-  pub with-place-is : lacks x 1 ≡ false → (e : Event) → length (eventRecord p e) ≡ eventWidth p → withPlace p (eventRecord p e) j ≡ journalImage p (noting e x)
+  pub noted-is : lacks x 1 ≡ false → (e : Event) {j₁ : List ℕ} → Noted p e j j₁ → j₁ ≡ journalImage p (noting e x)
   unfolding withPlace journalImage maybe
-  with-place-is l e w = go (opens j) refl
+  noted-is l e y = y .bytes ∙ go (opens j) refl
     where
       go : (t : Bool) → opens j ≡ t → cond t (withRecord journalHeader (countAt usedAt 2 j) (eventRecord p e) (withZeros p j)) j ≡ journalImage p (noting e x)
-      go true c = book-open h c _ (λ es o. place-noted h o (record { place = refl; bytes = refl }) l e w)
+      go true c = book-open h c _ (λ es o. place-noted h o (record { place = refl; bytes = refl }) l e (y .wide))
       go false c = let n = book-closed h c in h .bytes ∙ rw n
 
 -- a batch opened and closed

@@ -67,6 +67,11 @@ withZeros p j = grown usedAt 2 journalHeader (journalPlaces p j) (countAt usedAt
 unfoldable pub withPlace : Profile → List ℕ → List ℕ → List ℕ
 withPlace p r j = cond (opens j) (withRecord journalHeader (countAt usedAt 2 j) r (withZeros p j)) j
 
+-- an event is noted, while a batch is open
+pub record Noted (p : Profile) (e : Event) (j j₁ : List ℕ) : Type 0 where
+  pub wide : length (eventRecord p e) ≡ eventWidth p
+  pub bytes : j₁ ≡ withPlace p (eventRecord p e) j
+
 pub record Spacious (p : Profile) (j : List ℕ) : Type 0 where
   pub known : Known p
   pub long : journalHeader ≤ length j

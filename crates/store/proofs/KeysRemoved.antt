@@ -18,7 +18,7 @@ use Rattle.rules.specs.declared.answer.Refusal.the-variants.{UnknownTable, RowR
 use Rattle.rules.specs.State.{Name, Table, Row, State, isNamed, tableNamed, ofTable, isRow, rowWith}
 use Rattle.rules.specs.Journal.{stood, lacks, Books}
 use Rattle.rules.specs.Layout.{image, parse, unknown}
-use Rattle.rules.specs.Pages.{journalLength, eventRecord, journalImage, booksOf}
+use Rattle.rules.specs.Pages.{journalLength, journalImage, booksOf}
 use Rattle.rules.specs.Request.{said, ok, no, Carried, carriedBy, noCarrying}
 use Rattle.rules.specs.Rows.{rowReferenced}
 use Rattle.rules.specs.Schema.{first}
@@ -44,7 +44,9 @@ use Rattle.journal.specs.Books.{LaidBooks, Booked, Settled}
 use Rattle.journal.proofs.Booking.{LaidPages, laid-are, laid-books-of, laid-fitting, laid-pages, journaled, noted-places}
 use Rattle.journal.proofs.Noting.{book-length}
 use Rattle.store.proofs.Lookups.{stored}
-use Rattle.store.proofs.Settling.{lacks-fewer, noted-is, left-alone, more-pages}
+use Rattle.store.proofs.Settling.{left-alone, more-pages}
+use Rattle.rules.proofs.Outside.{lacks-less}
+use Rattle.journal.proofs.Noting.{noted-is}
 
 pub fewer-laid : (p : Profile) (R : ℕ) (st : State) → LaidState p R st → (f : Row → Bool) → LaidState p R (withRows st (keep f (st .rows)))
 fewer-laid p R st v f =
@@ -96,7 +98,7 @@ module _ (b : Books) (n : Name) (k : Value) (ks : List Value) where
   -- room for all is room for the first, and then for the others
   module _ (l : lacks (b .journal) (length (removals (b .store .rows) n (k ∷ ks))) ≡ false) where
     first-room : lacks (b .journal) (length (removals (b .store .rows) n (k ∷ []))) ≡ false
-    first-room = lacks-fewer (b .journal) _ (length (removals (b .store .rows) n (k ∷ ks))) (omega (arith, first-length)) l
+    first-room = lacks-less (b .journal) (length (removals (b .store .rows) n (k ∷ ks))) _ (omega (arith, first-length)) l
 
     then-room : lacks ((firstGone b n k) .journal) (length (removals ((firstGone b n k) .store .rows) n ks)) ≡ false
     then-room =
@@ -194,10 +196,10 @@ module _ {p : Profile} {R : ℕ} {s j : List ℕ} (b : LaidBooks p R s j) (t : �
       pub one-place : lacks ((booksOf p R s j) .journal) 1 ≡ false
       one-place = rw goes at room
 
-      pub key-gone : {s₁ j₁ : List ℕ} → s₁ ≡ image p R (apply (removed (rowIn p R s i)) (parse p R s)) → Noted p (eventRecord p (stood (rowIn p R s i))) j j₁
+      pub key-gone : {s₁ j₁ : List ℕ} → s₁ ≡ image p R (apply (removed (rowIn p R s i)) (parse p R s)) → Noted p (stood (rowIn p R s i)) j j₁
           → Removes p R s j t (k ∷ []) s₁ j₁ × (true ≡ not (isNil (removalsIn p R s t (k ∷ []))))
       unfolding applyAll noteAll note
-      key-gone e w = rw goes (record { store = e; journal = noted-is b one-place (stood (rowIn p R s i)) w }, refl)
+      key-gone e w = rw goes (record { store = e; journal = noted-is (journaled b) one-place (stood (rowIn p R s i)) w }, refl)
 
   pub key-absent : none ≡ placeOf (isRow n k) rows → Removes p R s j t (k ∷ []) s j × (false ≡ not (isNil (removalsIn p R s t (k ∷ []))))
   unfolding removalsIn removals applyAll noteAll maybe

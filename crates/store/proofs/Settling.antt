@@ -1,8 +1,6 @@
 -- A store and its journal under a write: how many places there are left, what is noted, both as they were, and both laid out after rows went.
 -- Assumes nothing.
--- ---- places left
--- room for more is room for fewer
-use Prim.Native.Nat.{ℕ, _≤_}
+use Prim.Native.Nat.{ℕ}
 use native.Mathlib.Omega.{arith}
 use mathlib.Core.Path.{_≡_, refl, sym, _∙_, ap, subst}
 use mathlib.Core.Bool.{Bool, true, false, not}
@@ -14,36 +12,39 @@ use Rattle.values.specs.Basic.{maybe}
 use Rattle.values.specs.Value.{Value}
 use Rattle.rules.specs.declared.profile.Profile.{Profile}
 use Rattle.rules.specs.declared.answer.Answer.{Answer}
+use Rattle.rules.specs.Profile.{rowWidth}
 use Rattle.rules.specs.State.{Name, Row}
-use Rattle.rules.specs.Journal.{Event, absent, stood, Journal, lacks, Books}
+use Rattle.rules.specs.Journal.{Event, absent, stood, lacks, Books}
 use Rattle.rules.specs.Request.{Reply, said}
 use Rattle.rules.specs.Step.{Outcome, refused, applyAll, noteAll}
 use Rattle.rules.specs.Sound.{every, goodEvent}
 use Rattle.rules.specs.Layout.{rowRecord}
-use Rattle.rules.specs.Pages.{eventRecord, journalImage, booksOf}
+use Rattle.rules.specs.Pages.{eventWidth, eventRecord, booksOf}
 use Rattle.rules.proofs.Tests.{and-left, and-right, and-both, every-of}
 use Rattle.rules.proofs.Valid.{LaidState}
-use Rattle.rules.proofs.Backed.{More, has-place, place-had}
-use Rattle.journal.specs.Page.{Paged, Roomy, noting, Tells, Noted}
+use Rattle.rules.proofs.Backed.{More, has-place}
+use Rattle.journal.specs.Page.{Paged, Roomy, hasPlaces, withPlace, Noted}
 use Rattle.journal.specs.Books.{LaidBooks, Booked, Settled}
+use Rattle.journal.proofs.Noting.{has-places-is}
+use Rattle.journal.proofs.Writing.{row-place}
 use Rattle.journal.proofs.Booking.{LaidPages, booked-bytes, journaled}
-
-pub lacks-fewer : (j : Journal) (m n : ℕ) → m ≤ n → lacks j n ≡ false → lacks j m ≡ false
-lacks-fewer j m n h l = place-had j m (λ es e. omega (arith, h, has-place j es n e l))
 
 module _ {p : Profile} {R : ℕ} {s j : List ℕ} (b : LaidBooks p R s j) where
   pub paged-of : Paged p j
   paged-of = record { journal = (booksOf p R s j) .journal; holds = journaled b }
 
-  pub has-room : {n : ℕ} {r : Bool} → Tells p n j r → r ≡ true → lacks ((booksOf p R s j) .journal) n ≡ false
-  has-room e h = not-true _ (sym (e .of ((booksOf p R s j) .journal) (journaled b)) ∙ h)
+  told : (n : ℕ) {r : Bool} → r ≡ hasPlaces p n j → r ≡ not (lacks ((booksOf p R s j) .journal) n)
+  told n e = e ∙ has-places-is (journaled b) n
 
-  pub no-room : {n : ℕ} {r : Bool} → Tells p n j r → r ≡ false → lacks ((booksOf p R s j) .journal) n ≡ true
-  no-room e h = not-false _ (sym (e .of ((booksOf p R s j) .journal) (journaled b)) ∙ h)
+  pub has-room : (n : ℕ) {r : Bool} → r ≡ hasPlaces p n j → r ≡ true → lacks ((booksOf p R s j) .journal) n ≡ false
+  has-room n e h = not-true _ (sym (told n e) ∙ h)
 
-  pub told-lacks : {m n : ℕ} {r : Bool} → Tells p m j r → m ≡ n → not r ≡ lacks ((booksOf p R s j) .journal) n
-  told-lacks {m} {n} e f =
-      ap not (e .of ((booksOf p R s j) .journal) (journaled b) ∙ ap (λ (k : ℕ). not (lacks ((booksOf p R s j) .journal) k)) f) ∙ twice (lacks ((booksOf p R s j) .journal) n)
+  pub no-room : (n : ℕ) {r : Bool} → r ≡ hasPlaces p n j → r ≡ false → lacks ((booksOf p R s j) .journal) n ≡ true
+  no-room n e h = not-false _ (sym (told n e) ∙ h)
+
+  pub told-lacks : (m : ℕ) {n : ℕ} {r : Bool} → r ≡ hasPlaces p m j → m ≡ n → not r ≡ lacks ((booksOf p R s j) .journal) n
+  told-lacks m {n} e f =
+      ap not (told m e ∙ ap (λ (k : ℕ). not (lacks ((booksOf p R s j) .journal) k)) f) ∙ twice (lacks ((booksOf p R s j) .journal) n)
     where
       twice : (x : Bool) → not (not x) ≡ x
       twice true = refl
@@ -53,18 +54,15 @@ module _ {p : Profile} {R : ℕ} {s j : List ℕ} (b : LaidBooks p R s j) where
     pub roomy-of : Roomy p j
     roomy-of = record { journal = (booksOf p R s j) .journal; holds = journaled b; room = l }
 
-    pub noted-is : (e : Event) {j₁ : List ℕ} → Noted p (eventRecord p e) j j₁ → j₁ ≡ journalImage p (noting e ((booksOf p R s j) .journal))
-    noted-is e n = n .of ((booksOf p R s j) .journal) e (journaled b) l refl
-
 -- ---- what is noted, as the code has it: a record's bytes, a name and a key
 
 module _ {p : Profile} {j j₁ : List ℕ} where
-  pub noted-row : {l : List ℕ} (r : Row) → l ≡ rowRecord p r → Noted p (2 ∷ l) j j₁ → Noted p (eventRecord p (stood r)) j j₁
+  pub noted-row : {l : List ℕ} (r : Row) → l ≡ rowRecord p r → length l ≡ rowWidth p → j₁ ≡ withPlace p (2 ∷ l) j → Noted p (stood r) j j₁
   unfolding eventRecord
-  noted-row r e h = subst (λ (l : List ℕ). Noted p (2 ∷ l) j j₁) e h
+  noted-row {l} r e w h = record { wide = ap (λ (x : List ℕ). length (2 ∷ x)) (sym e) ∙ row-place p l w; bytes = h ∙ ap (λ (x : List ℕ). withPlace p (2 ∷ x) j) e }
 
-  pub noted-key : {m n : Name} {k v : Value} → m ≡ n → k ≡ v → Noted p (eventRecord p (absent m k)) j j₁ → Noted p (eventRecord p (absent n v)) j j₁
-  noted-key {m} {n} {k} {v} e f h = subst (λ (x : Event). Noted p (eventRecord p x) j j₁) (rw (e, f) refl) h
+  pub noted-key : {m n : Name} {k v : Value} → m ≡ n → k ≡ v → length (eventRecord p (absent m k)) ≡ eventWidth p → j₁ ≡ withPlace p (eventRecord p (absent m k)) j → Noted p (absent n v) j j₁
+  noted-key {m} {n} {k} {v} e f w h = subst (λ (x : Event). Noted p x j j₁) (rw (e, f) refl) (record { wide = w; bytes = h })
 
 -- ---- both stay as they are
 

@@ -24,7 +24,7 @@ use Rattle.rules.specs.State as S
 use Rattle.rules.specs.State.{Name, Table, State, tableNamed, ofTable, isRow, rowWith, keyOf, rowOf}
 use Rattle.rules.specs.Layout.{image, parse, unknown}
 use Rattle.rules.specs.Journal.{absent, stood, lacks, Books}
-use Rattle.rules.specs.Pages.{eventRecord, journalImage, booksOf}
+use Rattle.rules.specs.Pages.{journalImage, booksOf}
 use Rattle.rules.specs.Schema.{first}
 use Rattle.rules.specs.Request.{Pair, Reply, said, ok, no, Carried, carriedBy, noCarrying, withGone}
 use Rattle.rules.specs.Rows.{rowFault, rowReferenced}
@@ -48,13 +48,14 @@ use Rattle.laid.specs.Row.{cellsOf, NormalCell, rowIn, tableIn, Addable, Replac
 use Rattle.walks.specs.Referring.{referrerOf}
 use Rattle.journal.specs.Page.{noting, Noted}
 use Rattle.journal.specs.Books.{Booked, BytesOf, Settled}
-use Rattle.journal.proofs.Booking.{laid-books, right-of, next-are, next-booked}
+use Rattle.journal.proofs.Booking.{laid-books, right-of, next-are, next-booked, journaled}
 use Rattle.store.specs.Removed.{removalsIn, Removes, RoomFor}
 use Rattle.checks.proofs.Faulting.{Told, told, or-told, first-passes}
 use Rattle.laid.proofs.Finding.{place-found, place-missing}
 use Rattle.checks.proofs.Fitting.{cells-told}
 use Rattle.laid.proofs.Keyed.{row-at}
-use Rattle.store.proofs.Settling.{noted-is, left-alone}
+use Rattle.store.proofs.Settling.{left-alone}
+use Rattle.journal.proofs.Noting.{noted-is}
 use Rattle.laid.proofs.RowFacts.{table-held}
 use Rattle.laid.proofs.Stores.{store-valid, laid-store}
 
@@ -210,7 +211,7 @@ module _ {p : Profile} {R : ℕ} {s j : List ℕ} (b : Booked p R s j) {t : ℕ}
         }
 
     pub row-inserted : lacks (bk .journal) 1 ≡ false → {s₁ j₁ : List ℕ} → s₁ ≡ image p R (apply (added (rowOf T v)) st)
-        → Noted p (eventRecord p (absent (T .name) (keyOf T v))) j j₁ → (m : ℕ) (a : Answer) → said a ≡ ok 1
+        → Noted p (absent (T .name) (keyOf T v)) j j₁ → (m : ℕ) (a : Answer) → said a ≡ ok 1
         → Settled p R (numbered m (insertRow p R T bk v)) s j s₁ j₁ a
     unfolding applyAll noteAll note
     row-inserted l e n m a h =
@@ -218,7 +219,7 @@ module _ {p : Profile} {R : ℕ} {s j : List ℕ} (b : Booked p R s j) {t : ℕ}
         rw (insert-passes p R T bk v (put-free p R T bk false v free l))
         (record {
           answer = h;
-          bytes = record { store = e; journal = noted-is (laid-books b) l (absent (T .name) (keyOf T v)) n ∙ ap (λ (x : Value). journalImage p (noting (absent (T .name) x) (bk .journal))) k };
+          bytes = record { store = e; journal = noted-is (journaled (laid-books b)) l (absent (T .name) (keyOf T v)) n ∙ ap (λ (x : Value). journalImage p (noting (absent (T .name) x) (bk .journal))) k };
         })
 
   -- ---- a row in place of the one with its key
@@ -257,12 +258,12 @@ module _ {p : Profile} {R : ℕ} {s j : List ℕ} (b : Booked p R s j) {t : ℕ}
               laid = laid-of p R (withRows st (withRow (rowOf T v) (st .rows))) (valid-laid (with-row true free));
             }
 
-        pub row-replaced : {s₁ j₁ : List ℕ} → s₁ ≡ image p R (apply (replaced (rowIn p R s i) (rowOf T v)) st) → Noted p (eventRecord p (stood (rowIn p R s i))) j j₁
+        pub row-replaced : {s₁ j₁ : List ℕ} → s₁ ≡ image p R (apply (replaced (rowIn p R s i) (rowOf T v)) st) → Noted p (stood (rowIn p R s i)) j j₁
             → (m : ℕ) (a : Answer) → said a ≡ ok 1 → Settled p R (numbered m (sameKey p R T bk v)) s j s₁ j₁ a
         unfolding applyAll noteAll note
         row-replaced q w m a h =
             rw (same-passes p R T bk v (rowIn p R s i) (put-free p R T bk true v free l) (rw (en, ey) at found))
-            (record { answer = h; bytes = record { store = q; journal = noted-is (laid-books b) l (stood (rowIn p R s i)) w } })
+            (record { answer = h; bytes = record { store = q; journal = noted-is (journaled (laid-books b)) l (stood (rowIn p R s i)) w } })
 
   -- ---- the old key's row goes, and then an insert
 

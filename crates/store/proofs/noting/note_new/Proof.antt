@@ -1,6 +1,7 @@
 -- `store::noting::note_new` meets its contract. Assumes nothing.
 use Prim.Native.Nat.{_<_}
 use native.Mathlib.Omega.{arith}
+use Rattle.journal.proofs.Writing.{absent-long}
 use Rattle.store.proofs.Settling.{noted-key}
 use Rattle.store.proofs.TableAt.{record-asked, name-fits, key-fits, its-name, key-few, key-proper, key-held}
 use borrow.Author.Needs.{needs}
@@ -53,7 +54,10 @@ returns : tie.Need-returns
 returns c =
     let b = c .before .before .before .before .before .before .before .before .before .before .before .before in
     noted-key (its-name (b .pre .0) (b .args .t) (b .pre .1 .known) (c .before .before .before .before .before .before .before .before .before .table-record .ensures) (c .before .before .before .before .before .before .before .before .read-name .ensures .0))
-    (key-held (b .pre .0) (b .args .t) (b .pre .1 .known) (c .before .before .before .before .before .before .before .table-record2 .ensures) (c .before .before .before .before .before .before .key-column .ensures) (b .pre .1)) (c .before .before .note-absent .ensures)
+    (key-held (b .pre .0) (b .args .t) (b .pre .1 .known) (c .before .before .before .before .before .before .before .table-record2 .ensures) (c .before .before .before .before .before .before .key-column .ensures) (b .pre .1))
+    (absent-long (b .args .p) (b .pre .2 .holds .paging) (c .before .before .before .before .before .before .before .before .read-name .result) _ (c .before .before .before .before .before .before .before .before .read-name .ensures .1)
+    (key-proper (b .pre .0) (b .args .t) (b .pre .1 .known) (c .before .before .before .before .before .before .before .table-record2 .ensures) (c .before .before .before .before .before .before .key-column .ensures) (b .pre .1)))
+    (c .before .before .note-absent .ensures)
 
 pub note-new-spec : {M : Type 1} → statement M
 note-new-spec =

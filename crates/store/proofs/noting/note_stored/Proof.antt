@@ -28,7 +28,7 @@ returns c =
     let b = c .before .before .before .before .before .before .before in
     let a = b .args in
     noted-row (rowIn (a .p) (a .places) (a .s .now) (a .i))
-    (c .before .before .before .row-record .ensures ∙ row-read (a .p) (a .places) (a .s .now) (b .pre .0) (a .i) (b .pre .1)) (c .before .before .note-row .ensures)
+    (c .before .before .before .row-record .ensures ∙ row-read (a .p) (a .places) (a .s .now) (b .pre .0) (a .i) (b .pre .1)) (row-bytes (a .p) (a .places) (a .s .now) (b .pre .0) (a .i) (b .pre .1) (c .before .before .before .row-record .result .now) (c .before .before .before .row-record .ensures)) (c .before .before .note-row .ensures)
 
 pub note-stored-spec : {M : Type 1} → statement M
 note-stored-spec = tie.close (tie.spec row-record-requires note-row-requires same-length returns)

@@ -34,7 +34,7 @@ free c =
 room : (c : tie.Else2) →
     let a = (c .before .before .before .before .before .before .before .before .before) .args in
     lacks ((booksOf (a .p) (a .places) (a .s .now) (a .j .now)) .journal) 1 ≡ false
-room c = has-room (laid-books (c .before .before .before .before .before .before .before .before .before .pre .0)) (c .before .has-places .ensures) (not-false _ (c .if2 .left))
+room c = has-room (laid-books (c .before .before .before .before .before .before .before .before .before .pre .0)) 1 (c .before .has-places .ensures) (not-false _ (c .if2 .left))
 
 -- the name and the key that its old row is looked for by
 named : (c : tie.After-read-name) →
@@ -102,7 +102,7 @@ same-length-3 c = search needs
 returns-2 : tie.Need-returns-2
 returns-2 c =
     let b = c .before .before .before .before .before .before .before .before .before .before in
-    same-full (b .pre .0) (b .pre .1) (free (c .before .before .before .before)) (no-room (laid-books (b .pre .0)) (c .before .before .has-places .ensures) (not-true _ (c .before .if2 .taken))) (b .args .n)
+    same-full (b .pre .0) (b .pre .1) (free (c .before .before .before .before)) (no-room (laid-books (b .pre .0)) 1 (c .before .before .has-places .ensures) (not-true _ (c .before .if2 .taken))) (b .args .n)
     (c .refused2 .result)
     (c .refused2 .ensures)
 
