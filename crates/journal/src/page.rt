@@ -36,7 +36,7 @@ pub const PLACE_NAME: usize = 1;
 
 pub const PLACE_KEY: usize = PLACE_NAME + cell::NAME_WIDTH;
 
-const KEY_END: usize = PLACE_KEY + cell::CELL_WIDTH;
+pub const KEY_END: usize = PLACE_KEY + cell::CELL_WIDTH;
 
 pub fn event_width(p: Profile) -> usize
     requires { ⌜ Known p ⌝ }

@@ -41,14 +41,14 @@ glue : (s : List ℕ) (n k m : ℕ) → n + k ≡ m → take k (drop n s) ++ dro
 glue s n k m e = ap (λ (l : List ℕ). take k (drop n s) ++ l) (ap (λ (j : ℕ). drop j s) (sym e) ∙ sym (drop-drop k n s)) ∙ take-append-drop k (drop n s)
 
 -- a count, written
-counted-back : (s : List ℕ) (n k : ℕ) → Bytes s → n + k ≤ length s → be k (num 0 (take k (drop n s))) [] ≡ take k (drop n s)
+pub counted-back : (s : List ℕ) (n k : ℕ) → Bytes s → n + k ≤ length s → be k (num 0 (take k (drop n s))) [] ≡ take k (drop n s)
 unfolding be
 counted-back s n k b h =
     let x : List ℕ = take k (drop n s) in
     let l : 0 + length x ≡ k = omega (arith, length-take-le k (drop n s) (simp length-drop (omega arith))) in
     ap (λ (j : ℕ). be j (num 0 x) []) (sym l) ∙ be-num x 0 0 [] (take-bytes k (drop n s) (drop-bytes n s b)) ∙ append-nil x
 
-less-times : (m n w : ℕ) → n ≤ m → m * w - n * w ≡ (m - n) * w
+pub less-times : (m n w : ℕ) → n ≤ m → m * w - n * w ≡ (m - n) * w
 less-times m n w h =
     let e : m ≡ n + (m - n) = omega arith in
     let f : m * w ≡ n * w + (m - n) * w = ap (λ (j : ℕ). j * w) e ∙ add-mul n (m - n) w in

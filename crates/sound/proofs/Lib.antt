@@ -15,3 +15,6 @@ pub mod Placed
 pub mod Linking
 pub mod Verdict
 pub mod EntryTests
+pub mod PlacePieces
+pub mod JournalVerdict
+pub mod JournalAsked

@@ -236,7 +236,7 @@ module _ (p : Profile) (k : Coded p) where
 
 -- ---- tables
 
-every-both : {A B : Type 0} (f : A → Bool) (h : A → B) (g : B → Bool) (xs : List A) → every (λ x. f x && g (h x)) xs ≡ (every f xs && every g (map h xs))
+pub every-both : {A B : Type 0} (f : A → Bool) (h : A → B) (g : B → Bool) (xs : List A) → every (λ x. f x && g (h x)) xs ≡ (every f xs && every g (map h xs))
 unfolding every
 every-both f h g [] = refl
 every-both f h g (x ∷ xs) = rw (every-both f h g xs) (four (f x) (g (h x)) (every f xs) (every g (map h xs)))

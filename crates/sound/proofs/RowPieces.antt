@@ -47,7 +47,7 @@ record-bytes w (suc n) l b c (inr m) = record-bytes w n (drop w l) (drop-bytes w
 -- ---- cells as they are read
 
 module _ (n : ℕ) (r : List ℕ) where
-  cells-long : length (cellsIn n r) ≡ n
+  pub cells-long : length (cellsIn n r) ≡ n
   unfolding readCells
   cells-long = length-map (records 26 n (drop 25 r)) readValue ∙ length-records 26 n (drop 25 r)
 
@@ -59,7 +59,7 @@ module _ (n : ℕ) (r : List ℕ) where
       ∙ ap (λ (l : List ℕ). some (readValue l)) (getD-records 26 n j (drop 25 r) h)
       ∙ ap some (value-front 26 (drop (j * 26) (drop 25 r)) (omega arith) ∙ ap readValue (drop-drop (j * 26) 25 r))
 
-  cells-canonical : Bytes r → every canonical (cellsIn n r) ≡ true
+  pub cells-canonical : Bytes r → every canonical (cellsIn n r) ≡ true
   unfolding readCells
   cells-canonical b = every-of canonical (cellsIn n r) (λ v m. let q = in-map readValue v (records 26 n (drop 25 r)) m in ap canonical (q .2) ∙ bytes-of (q .0) (q .1))
     where

@@ -6,3 +6,4 @@ pub mod row_test; // the rows: each a record that fits its table, sorted
 pub mod reference_test; // references that are not NULL: each names a stored row
 pub mod index_test; // the index: sorted, the entries of the rows and no others, values of unique columns once
 pub mod soundness; // the verdict on any lent bytes
+pub mod journal_test; // the verdict on a lent journal beside a sound store

@@ -114,7 +114,7 @@ fn fits_table(row: &[u8], rec: &[u8], p: Profile) -> bool
 }
 
 // Whether the bytes are a row's record, and the row fits its table.
-fn is_row(s: &[u8], p: Profile, places: usize, row: &[u8]) -> bool
+pub fn is_row(s: &[u8], p: Profile, places: usize, row: &[u8]) -> bool
     requires { ⌜ Schemed p places (now s) × (length (now row) ≡ rowWidth p) ⌝ }
     ensures { λ r. ⌜ r ≡ isRow p ((parse p places (now (s .entry))) .tables) (now (row .entry)) ⌝ }
 {
