@@ -17,7 +17,7 @@ use Rattle.rules.specs.State.{Row, State}
 use Rattle.rules.specs.Journal.{Event, absent, stood, put, stand, unwound, turned, roomy}
 use Rattle.rules.specs.Layout.{image, parse}
 use Rattle.rules.specs.Sound.{every, goodEvent, goodCells}
-use Rattle.rules.specs.Pages.{journalLength}
+use Rattle.rules.specs.Pages.{journalLength, openImage, journalPlaces}
 use Rattle.rules.proofs.Tests.{and-left, and-right, and-both, all-head, all-tail}
 use Rattle.rules.proofs.Trip.{canonical-normal}
 use Rattle.rules.proofs.Valid.{LaidState}
@@ -108,6 +108,17 @@ module _ {p : Profile} {R : ℕ} {s₀ j₀ : List ℕ} {i : ℕ} {s j : List �
     held-inside p R s (m .batch .store) .long ∙ sym (held-inside p R s₀ (m .before .store) .long),
     batch-long (m .batch) ∙ ap (journalLength p) (m .places) ∙ sym (batch-long (m .before)),
   )
+
+  -- every byte of both
+  pub half-store : Halfway p R s₀ j₀ i s j → s ≡ image p R (withRows (parse p R s₀) (unwound (drop i (eventsOf p R s₀ j₀)) (rowsOf p R s₀)))
+  half-store m = m .batch .store .bytes ∙ ap (image p R) (m .state)
+
+  pub half-journal : Halfway p R s₀ j₀ i s j
+      → j ≡ openImage p (journalPlaces p j₀) (take i (eventsOf p R s₀ j₀) ++ turned (drop i (eventsOf p R s₀ j₀)) (rowsOf p R s₀))
+  half-journal m =
+      m .batch .bytes ∙ ap (λ (x : State). openImage p (journalPlaces p j) (eventsIn p (x .tables) j)) (m .state)
+      ∙ ap (openImage p (journalPlaces p j)) (m .events)
+      ∙ ap (λ (n : ℕ). openImage p n (take i (eventsOf p R s₀ j₀) ++ turned (drop i (eventsOf p R s₀ j₀)) (rowsOf p R s₀))) (m .places)
 
   pub half-place : {k : ℕ} → Halfway p R s₀ j₀ i s j → k < length (eventsOf p R s₀ j₀) → PlaceIn p R s j k
   half-place m l = record { batch = m .batch; within = omega (arith, half-long m) }

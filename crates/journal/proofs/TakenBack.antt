@@ -5,7 +5,7 @@ use mathlib.Core.Bool.{true, false}
 use mathlib.Core.List.{List}
 use mathlib.Core.Option.{some}
 use lib.Dec.{eqb}
-use lib.ListN.{getD}
+use lib.ListN.{getD, drop}
 use borrow.Author.Tests.{eqb-true}
 use Rattle.values.specs.Basic.{maybe}
 use Rattle.rules.specs.declared.profile.Profile.{Profile}
@@ -19,11 +19,12 @@ use Rattle.areas.specs.Counted.{framed}
 use Rattle.journal.specs.Turn.{eventsIn, Batch}
 use Rattle.journal.specs.Books.{LaidBooks}
 use Rattle.journal.specs.Back.{rowsOf, eventsOf, Unwinds}
+use Rattle.journal.proofs.Halfway.{half-store}
 
 -- the places of an open journal are those in use
-open-batch : (p : Profile) (R : ℕ) (s j : List ℕ) → eqb (getD j 0 0) 0 ≡ false → (booksOf p R s j) .journal .batch ≡ some (eventsOf p R s j)
+pub open-events : (p : Profile) (R : ℕ) (s j : List ℕ) → eqb (getD j 0 0) 0 ≡ false → (booksOf p R s j) .journal .batch ≡ some (eventsOf p R s j)
 unfolding parseJournal eventsIn
-open-batch p R s j o = rw o
+open-events p R s j o = rw o
 
 module _ {p : Profile} {R : ℕ} {s j : List ℕ} where
   pub books-batch : LaidBooks p R s j → eqb (getD j 0 0) 0 ≡ false → Batch p R s j
@@ -33,8 +34,8 @@ module _ {p : Profile} {R : ℕ} {s j : List ℕ} where
         store = b .store;
         paging = b .paging;
         most = b .most;
-        few = rw (open-batch p R s j o) at (b .few);
-        good = rw (open-batch p R s j o) at (b .good);
+        few = rw (open-events p R s j o) at (b .few);
+        good = rw (open-events p R s j o) at (b .good);
         bytes = b .bytes ∙ rw o;
       }
 
@@ -45,7 +46,7 @@ module _ {p : Profile} {R : ℕ} {s j : List ℕ} where
 
     -- the journal as `backed` has it
     pub batch-backed : backed p R (booksOf p R s j) ≡ true → roomy R (eventsOf p R s j) (rowsOf p R s) ≡ true
-    batch-backed h = backed-is p R (booksOf p R s j) h (eventsOf p R s j) (open-batch p R s j batch-open) .room
+    batch-backed h = backed-is p R (booksOf p R s j) h (eventsOf p R s j) (open-events p R s j batch-open) .room
 
     module _ {r : ℕ} {s₁ j₁ : List ℕ} (u : Unwinds p R s j r s₁ j₁) (h : backed p R (booksOf p R s j) ≡ true) where
       pub all-back : r ≡ 0
@@ -55,4 +56,4 @@ module _ {p : Profile} {R : ℕ} {s j : List ℕ} where
       back-state = subst (λ (k : ℕ). Unwinds p R s j k s₁ j₁) all-back u .half .state
 
       pub back-bytes : s₁ ≡ image p R (withRows (parse p R s) (unwound (eventsOf p R s j) (rowsOf p R s)))
-      back-bytes = u .half .batch .store .bytes ∙ ap (image p R) back-state
+      back-bytes = half-store (u .half) ∙ ap (λ (k : ℕ). image p R (withRows (parse p R s) (unwound (drop k (eventsOf p R s j)) (rowsOf p R s)))) all-back
