@@ -2,11 +2,11 @@
 
 import zlib
 
-from journal import journal_image, journal_size, lend_journal
+from journal import journal_image, lend_journal
 from layout import NotSound, image, lent_state
 from records import Broken, Reader, printed, records
 from rules import STEPS, Refused
-from values import JOURNAL_MOST, State
+from values import State
 
 
 def answer(state, record):
@@ -52,7 +52,3 @@ def answer_both(store, journal, source):
     lines, _ = run(state, source)
     return lines, image(state), journal_image(state)
 
-
-def answer_lent(store, source):
-    """Lines and bytes of a run over a lent store beside a new journal."""
-    return answer_both(store, bytes(journal_size(JOURNAL_MOST)), source)[:2]

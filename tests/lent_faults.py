@@ -1,4 +1,5 @@
-"""What may go wrong with `lent STORE RECORDS AFTER`, case by case: what it must write, and that no file but AFTER is ever another."""
+"""What may go wrong with `lent STORE JOURNAL RECORDS STORE_AFTER JOURNAL_AFTER`, case by case: what it must write, and that no file but the last
+two is ever another, nor one of them without the other."""
 
 import os
 import random
@@ -8,9 +9,10 @@ import time
 
 from room import EMULATED, ROOT, Room, command, compared, disk, shown
 
+from journal import journal_size  # noqa: E402
 from layout import image  # noqa: E402
 from packed import text  # noqa: E402
-from runs import answer_lent  # noqa: E402
+from runs import answer_both  # noqa: E402
 from values import State  # noqa: E402
 
 DATA = os.path.join(ROOT, "crates", "lent", "data")
@@ -24,14 +26,35 @@ def data(name):
 
 STORE, SHEET, SCAN = data("fresh.store"), data("sheet.records"), data("scan.records")
 SPOILED, CUT = data("spoiled.store"), data("cut.store")
-LINES, AFTER = answer_lent(STORE, SHEET)
-LINES = text(LINES)
+JOURNAL = bytes(journal_size(70))
+OPEN, BACK = b"\0\2\1\x0c", b"\0\2\1\x0e"
+BATCH = SHEET[:79] + OPEN + SHEET[79:]  # the sheet, a batch being opened behind its first three records and left open
+
+
+def answered(store, journal, records):
+    """The lines as bytes, and the two files afterwards by the names that most cases have."""
+    lines, after, kept = answer_both(store, journal, records)
+    return text(lines), {"after": after, "kept": kept}
+
+
+LINES, LEFT = answered(STORE, JOURNAL, SHEET)
+BATCH_LINES, BATCH_LEFT = answered(STORE, JOURNAL, BATCH)
 REFUSED = b"no 38 0 0\n"
 OLD = b"what was there before"
-NAMES = ["store", "records", "after"]
-SAME = ["store", "records", "store"]
-UNDONE = "lent: not done: after is as it was"
-SAME_UNDONE = "lent: not done: store is as it was"
+NAMES = ["store", "journal", "records", "after", "kept"]
+SAME = ["store", "journal", "records", "store", "journal"]
+
+
+def as_they_were(after, kept):
+    return "lent: not done: %s and %s are as they were" % (after, kept)
+
+
+UNDONE = as_they_were("after", "kept")
+SAME_UNDONE = as_they_were("store", "journal")
+
+
+def renamed(left, after, kept):
+    return {after: left["after"], kept: left["kept"]}
 
 
 def judged(title, tally, room, before, said, out, undone, says=(), changed=None, status=0, err=b""):
@@ -62,68 +85,103 @@ def lent(tally, title, files, words=NAMES, out=b"", undone=UNDONE, says=(), chan
 
 
 def good(**more):
-    return {"store": STORE, "records": SHEET, **more}
+    return {"store": STORE, "journal": JOURNAL, "records": SHEET, **more}
 
 
 def whole_runs(tally):
     well = {"out": LINES, "undone": None}
-    lent(tally, "a new AFTER", good(), changed={"after": AFTER}, **well)
-    lent(tally, "AFTER replaced", good(after=OLD), changed={"after": AFTER}, **well)
-    lent(tally, "one name for STORE and AFTER", good(), SAME, changed={"store": AFTER}, **well)
-    lent(tally, "one name for RECORDS and AFTER", good(), ["store", "records", "records"], changed={"records": AFTER}, **well)
-    lent(tally, "AFTER in another folder", good(**{"far/x": b""}), ["store", "records", "far/after"], changed={"far/after": AFTER}, **well)
-    lent(tally, "AFTER in this folder, said so", good(), ["./store", "./records", "./after"], changed={"after": AFTER}, **well)
-    lent(tally, "AFTER.new is somebody's", good(**{"after.new": OLD}), changed={"after": AFTER}, **well)
-    lent(tally, "AFTER.new is a folder", good(**{"after.new": "dir"}), changed={"after": AFTER}, **well)
-    lent(tally, "AFTER.new is a named pipe", good(**{"after.new": "pipe"}), changed={"after": AFTER}, **well)
-    lent(tally, "AFTER.new is STORE", {"a.new": STORE, "records": SHEET}, ["./a.new", "records", "a"], changed={"a": AFTER}, **well)
-    lent(tally, "AFTER.new is RECORDS", {"store": STORE, "a.new": SHEET}, ["store", "./a.new", "a"], changed={"a": AFTER}, **well)
-    lent(tally, "no records", good(records=b""), out=b"", undone=None, changed={"after": STORE})
-    lent(tally, "a record cut off", good(records=SHEET + b"\0\x20\1"), out=LINES + b"no 1 0 0\n", undone=None, changed={"after": AFTER})
-    scan = text(answer_lent(AFTER, SCAN)[0])
-    two = ["store", "records", "after", "after", "scan", "last"]
-    lent(tally, "two triples", good(scan=SCAN), two, out=LINES + scan, undone=None, changed={"after": AFTER, "last": AFTER})
-    taken = {"after.new" + mark: OLD for mark in ["", *"123456789"]}
-    lent(tally, "ten files are in the way", good(**taken), says=["after: ten files"])
+    lent(tally, "two new files", good(), changed=LEFT, **well)
+    lent(tally, "both replaced", good(after=OLD, kept=OLD), changed=LEFT, **well)
+    lent(tally, "the same names before and after", good(), SAME, changed=renamed(LEFT, "store", "journal"), **well)
+    lent(tally, "one name for RECORDS and STORE_AFTER", good(), ["store", "journal", "records", "records", "kept"],
+         changed=renamed(LEFT, "records", "kept"), **well)
+    lent(tally, "STORE_AFTER is JOURNAL and JOURNAL_AFTER is STORE", good(), ["store", "journal", "records", "journal", "store"],
+         changed=renamed(LEFT, "journal", "store"), **well)
+    lent(tally, "STORE_AFTER in another folder", good(**{"far/x": b""}), ["store", "journal", "records", "far/after", "kept"],
+         changed=renamed(LEFT, "far/after", "kept"), **well)
+    lent(tally, "one last name, in two folders", good(**{"far/x": b""}), ["store", "journal", "records", "far/after", "after"],
+         changed=renamed(LEFT, "far/after", "after"), **well)
+    lent(tally, "this folder, said so", good(), ["./" + name for name in NAMES], changed=LEFT, **well)
+    for name in ("after", "kept"):
+        for title, what in [("somebody's", OLD), ("a folder", "dir"), ("a named pipe", "pipe")]:
+            lent(tally, "%s.new is %s" % (name, title), good(**{name + ".new": what}), changed=LEFT, **well)
+    lent(tally, "STORE_AFTER.new is STORE", {"a.new": STORE, "journal": JOURNAL, "records": SHEET}, ["./a.new", "journal", "records", "a", "kept"],
+         changed=renamed(LEFT, "a", "kept"), **well)
+    for title, records, lines, left in [("", SHEET, LINES, LEFT), (", a batch being open", BATCH, BATCH_LINES, BATCH_LEFT)]:
+        for after, kept in [("a", "a.new"), ("a.new", "a")]:
+            lent(tally, "the store goes to %s, the journal to %s%s" % (after, kept, title), good(records=records),
+                 ["store", "journal", "records", after, kept], out=lines, undone=None, changed=renamed(left, after, kept))
+    lent(tally, "no records", good(records=b""), out=b"", undone=None, changed={"after": STORE, "kept": JOURNAL})
+    lent(tally, "a record cut off", good(records=SHEET + b"\0\x20\1"), out=LINES + b"no 1 0 0\n", undone=None, changed=LEFT)
+    scan = text(answer_both(LEFT["after"], LEFT["kept"], SCAN)[0])
+    two = [*NAMES, "after", "kept", "scan", "last", "page"]
+    lent(tally, "two fives", good(scan=SCAN), two, out=LINES + scan, undone=None, changed={**LEFT, **renamed(LEFT, "last", "page")})
+    for name in ("after", "kept"):
+        taken = {name + ".new" + mark: OLD for mark in ["", *"123456789"]}
+        lent(tally, "ten files are in %s's way" % name, good(**taken), says=[name + ": ten files"])
+
+
+def batches(tally):
+    """A batch left open in the journal's file, and ended by a later run."""
+    lent(tally, "a batch is left open", good(records=BATCH), out=BATCH_LINES, undone=None, changed=BATCH_LEFT)
+    lent(tally, "a batch is left open, the same names", good(records=BATCH), SAME, out=BATCH_LINES, undone=None,
+         changed=renamed(BATCH_LEFT, "store", "journal"))
+    opened = {"store": BATCH_LEFT["after"], "journal": BATCH_LEFT["kept"], "records": BACK}
+    begun = answer_both(STORE, JOURNAL, SHEET[:79])
+    lent(tally, "taken back by a later run", opened, out=b"ok 0\n", undone=None, changed={"after": begun[1], "kept": JOURNAL})
+    lent(tally, "an open journal beside another store", {**opened, "store": STORE}, out=REFUSED, says=["store: this is no sound store"])
+    for places in (1, 8192):
+        journal = bytes(journal_size(places))
+        lines, left = answered(STORE, journal, BATCH)
+        lent(tally, "a batch with %d places" % places, good(records=BATCH, journal=journal), out=lines, undone=None, changed=left)
 
 
 def wrong_names(tally):
-    lent(tally, "no STORE", {"records": SHEET, "after": OLD}, says=["store: No such file"])
-    lent(tally, "no RECORDS", {"store": STORE, "after": OLD}, says=["records: No such file"])
-    far = "lent: not done: far/after is as it was"
-    lent(tally, "no folder for AFTER", good(), ["store", "records", "far/after"], undone=far, says=["No such file"])
-    lent(tally, "a file as AFTER's folder", good(far=OLD), ["store", "records", "far/after"], undone=far, says=["Not a directory"])
+    def to(after, kept):
+        return {"words": NAMES[:3] + [after, kept], "undone": as_they_were(after, kept)}
+
+    old = {"after": OLD, "kept": OLD}
+    for name in NAMES[:3]:
+        lent(tally, "no " + name, {k: v for k, v in good(**old).items() if k != name}, says=[name + ": No such file"])
+        lent(tally, "a folder as " + name, good(**{**old, name: "dir"}), says=[name + ": Is a directory"])
+        fault = "/proc/self/mem"  # opens, and can't be read
+        words = [fault if n == name else n for n in NAMES]
+        lent(tally, "%s can't be read" % name, good(**old), words, says=[fault + ": Input/output"])
+    for after, kept in [("far/after", "kept"), ("after", "far/kept")]:
+        lent(tally, "no folder for %s" % (after if "/" in after else kept), good(), says=["No such file"], **to(after, kept))
+        lent(tally, "a file as the folder of %s" % (after if "/" in after else kept), good(far=OLD), says=["Not a directory"], **to(after, kept))
     proc = "/proc/seluvama"
-    lent(tally, "a folder that takes no file", good(), ["store", "records", proc], undone="lent: not done: %s is as it was" % proc)
-    lent(tally, "a folder as STORE", good(store="dir", after=OLD), says=["store: Is a directory"])
-    lent(tally, "a folder as RECORDS", good(records="dir", after=OLD), says=["records: Is a directory"])
-    lent(tally, "a folder as AFTER", good(after="dir"), says=["after: Is a directory"])
-    lent(tally, "an empty name as AFTER", good(), ["store", "records", ""], undone="lent: not done:")
-    lent(tally, "a name of 5,000 bytes", good(), ["store", "records", "x" * 5000], undone="lent: not done:")
-    lent(tally, "a name with no room for .new", good(), ["store", "records", "./" * 2046 + "x"], undone="lent: not done:")
-    fault = "/proc/self/mem"  # opens, and can't be read
-    lent(tally, "a STORE that can't be read", good(after=OLD), [fault, "records", "after"], says=[fault + ": Input/output"])
-    lent(tally, "RECORDS that can't be read", good(after=OLD), ["store", fault, "after"], says=[fault + ": Input/output"])
-    lent(tally, "a named pipe as AFTER", good(after="pipe"), says=["after: this is no plain file"])
-    lent(tally, "a link as AFTER", good(after="link to real", real=OLD), says=["after: this is a link"])
-    lent(tally, "a link that leads nowhere as AFTER", good(after="link to nowhere"), says=["after: this is a link"])
-    lent(tally, "a device as AFTER", good(after="device"), says=["after: "])
+    lent(tally, "a folder that takes no file, for the store", good(), **to(proc, "kept"))
+    lent(tally, "a folder that takes no file, for the journal", good(), **to("after", proc))
+    for name in ("after", "kept"):
+        lent(tally, "a folder as " + name, good(**{name: "dir"}), says=[name + ": Is a directory"])
+        lent(tally, "a named pipe as " + name, good(**{name: "pipe"}), says=[name + ": this is no plain file"])
+        lent(tally, "a link as " + name, good(**{name: "link to real"}, real=OLD), says=[name + ": this is a link"])
+        lent(tally, "a link that leads nowhere as " + name, good(**{name: "link to nowhere"}), says=[name + ": this is a link"])
+        lent(tally, "a device as " + name, good(**{name: "device"}), says=[name + ": "])
+    for wrong in ("", "x" * 5000, "./" * 2046 + "x"):
+        lent(tally, "a name of %d bytes for the store" % len(wrong), good(), NAMES[:3] + [wrong, "kept"], undone="lent: not done:")
+        lent(tally, "a name of %d bytes for the journal" % len(wrong), good(), NAMES[:3] + ["after", wrong], undone="lent: not done:")
+    lent(tally, "one name for both afterwards", good(after=OLD), says=["after: this is to hold the store and the journal too"],
+         **to("after", "after"))
+    lent(tally, "one name for both afterwards, written in two ways", good(), says=["this is to hold"], **to("after", ".//after"))
     if os.getuid() != 0:
-        with Room() as room:
-            room.put(good(after=OLD))
-            os.chmod(room.path("after"), 0o444)
-            before = room.files()
-            judged("lent: AFTER may not be written", tally, room, before, room.run("lent", NAMES), b"", UNDONE)
-    first = ["nothing", "records", "after", "store", "records", "last"]
-    lent(tally, "the first of two triples fails", good(), first, out=LINES, says=["nothing: No such"], changed={"last": AFTER})
-    later = ["spoiled", "records", "after", "after", "records", "last"]
-    lent(tally, "a later triple wants what a refused one did not write", {"spoiled": SPOILED, "records": SHEET}, later,
-         out=REFUSED, undone="lent: not done: last is as it was", says=["after: No such"])
+        for name in ("after", "kept"):
+            with Room() as room:
+                room.put(good(**old))
+                os.chmod(room.path(name), 0o444)
+                before = room.files()
+                judged("lent: %s may not be written" % name, tally, room, before, room.run("lent", NAMES), b"", UNDONE)
+    first = ["nothing", "journal", "records", "after", "kept", "store", "journal", "records", "last", "page"]
+    lent(tally, "the first of two fives fails", good(), first, out=LINES, says=["nothing: No such"], changed=renamed(LEFT, "last", "page"))
+    later = ["spoiled", "journal", "records", "after", "kept", "after", "kept", "records", "last", "page"]
+    lent(tally, "a later five wants what a refused one did not write", good(spoiled=SPOILED), later,
+         out=REFUSED, undone=as_they_were("last", "page"), says=["after: No such"])
 
 
 def no_stores(tally):
     """38: nothing may be written."""
-    said = {"out": REFUSED, "says": ["store: this is no sound store"]}
+    said = {"out": REFUSED, "says": ["store: this is no sound store, or its journal is not sound"]}
     for title, store in [
         ("an unsound STORE", SPOILED),
         ("a STORE cut by a byte", CUT),
@@ -132,24 +190,38 @@ def no_stores(tally):
         ("a STORE a byte longer than the largest", image(State(4096)) + b"\0"),
         ("a text as STORE", b"insert plan (7, A)\n"),
     ]:
-        lent(tally, title, good(store=store, after=OLD), **said)
-        lent(tally, title + ", AFTER absent", good(store=store), **said)
-        lent(tally, title + ", STORE and AFTER one file", good(store=store), SAME, undone=SAME_UNDONE, **said)
+        lent(tally, title, good(store=store, after=OLD, kept=OLD), **said)
+        lent(tally, title + ", no files afterwards", good(store=store), **said)
+        lent(tally, title + ", the same names", good(store=store), SAME, undone=SAME_UNDONE, **said)
+    for title, journal in [
+        ("an empty JOURNAL", b""),
+        ("a JOURNAL cut by a byte", JOURNAL[:-1]),
+        ("a JOURNAL of a byte more", JOURNAL + b"\0"),
+        ("a JOURNAL of no place", bytes(journal_size(0))),
+        ("a JOURNAL a place longer than the largest", bytes(journal_size(8193))),
+        ("a JOURNAL a byte longer than the largest", bytes(journal_size(8192) + 1)),
+        ("a closed JOURNAL that is not zero", JOURNAL[:-1] + b"\1"),
+        ("a JOURNAL that says a place and has none", b"\1\0\1" + JOURNAL[3:]),
+        ("a text as JOURNAL", b"insert plan (7, A)\n"),
+    ]:
+        lent(tally, title, good(journal=journal, after=OLD, kept=OLD), **said)
+        lent(tally, title + ", the same names", good(journal=journal), SAME, undone=SAME_UNDONE, **said)
     largest = image(State(4096))
     assert len(largest) == LARGEST
-    lines, after = answer_lent(largest, SHEET)
-    lent(tally, "the largest STORE", good(store=largest), out=text(lines), undone=None, changed={"after": after})
+    lines, left = answered(largest, bytes(journal_size(8192)), BATCH)
+    lent(tally, "the largest STORE and the largest JOURNAL", good(store=largest, journal=bytes(journal_size(8192)), records=BATCH),
+         out=lines, undone=None, changed=left)
 
 
 def outputs(tally):
-    """Standard output that takes nothing: AFTER may not be touched."""
+    """Standard output that takes nothing: neither file may be touched."""
     with open("/dev/full", "wb") as full:
-        lent(tally, "standard output is a full disk", good(after=OLD), stdout=full, says=["standard output: No space"])
-        lent(tally, "standard output is a full disk, STORE and AFTER one file", good(), SAME, stdout=full, undone=SAME_UNDONE)
+        lent(tally, "standard output is a full disk", good(after=OLD, kept=OLD), stdout=full, says=["standard output: No space"])
+        lent(tally, "standard output is a full disk, the same names", good(), SAME, stdout=full, undone=SAME_UNDONE)
     for title, ignored, status in [("ignored", [signal.SIGPIPE], 0), ("not ignored", [], -signal.SIGPIPE)]:
         end, start = os.pipe()
         os.close(end)
-        lent(tally, "standard output is a closed pipe, SIGPIPE " + title, good(after=OLD), stdout=start, ignored=ignored,
+        lent(tally, "standard output is a closed pipe, SIGPIPE " + title, good(after=OLD, kept=OLD), stdout=start, ignored=ignored,
              undone=UNDONE if ignored else None, status=status)
         os.close(start)
 
@@ -162,16 +234,18 @@ def without_standard_files(tally):
     for closed in ([0], [1], [0, 1], [2], [1, 2], [0, 1, 2]):
         well = 1 not in closed
         undone = None if well or 2 in closed else UNDONE
-        lent(tally, "started without standard files %s" % closed, good(after=OLD), closed=closed, out=LINES if well else b"",
-             undone=undone, changed={"after": AFTER} if well else {})
+        lent(tally, "started without standard files %s" % closed, good(after=OLD, kept=OLD), closed=closed, out=LINES if well else b"",
+             undone=undone, changed=LEFT if well else {})
         if 2 in closed:
-            lent(tally, "started without standard files %s, AFTER a named pipe" % closed, good(after="pipe"), closed=closed, undone=None)
+            lent(tally, "started without standard files %s, a named pipe afterwards" % closed, good(after="pipe"), closed=closed, undone=None)
 
 
 def full_disks(tally):
-    """AFTER can't be written: it stays as it was, and that is known before anything is answered."""
+    """One of them can't be written: both stay as they were, and that is known before anything is answered."""
     lent(tally, "no file may have 10,000 bytes", good(), SAME, limit=10000, ignored=[signal.SIGXFSZ], undone=SAME_UNDONE,
          says=["store.new: File too large"])
+    lent(tally, "no file may have as many bytes as the journal", good(), SAME, limit=len(JOURNAL) - 1, ignored=[signal.SIGXFSZ], undone=SAME_UNDONE,
+         says=["journal.new: File too large"])
     with Room() as room:
         room.put(good())
         before = room.files()
@@ -182,66 +256,72 @@ def full_disks(tally):
         said = room.run("lent", SAME)
         left = room.files()
         left.pop("store.new", None)
-        wrong += compared({**before, "store": AFTER}, left, {})
+        wrong += compared({**before, **renamed(LEFT, "store", "journal")}, left, {})
         if said.out != LINES or said.err:
             wrong.append("the next run should answer, wrote %s and said %r" % (shown(said.out), said.err))
         tally.add("lent: killed by SIGXFSZ, and run again", wrong)
     pages = 4096
-    for free in (0, 2 * pages):  # beside a store that takes four pages and records that take one
+    for free in (0, 2 * pages, 4 * pages):  # beside a store that takes four pages, a journal that takes five and records that take one
         for words in (SAME, NAMES):
-            with disk(5 * pages + free) as place:
+            with disk(10 * pages + free) as place:
                 if place is None:
                     print("--    lent: a full disk: no small disk can be mounted here, left out")
                     return
                 place.put(good())
                 before = place.files()
                 said = place.run("lent", words)
-                title = "lent: a disk with %d bytes left, AFTER is %s" % (free, words[2])
-                judged(title, tally, place, before, said, b"", "lent: not done: %s is as it was" % words[2], ["No space left"])
+                title = "lent: a disk with %d bytes left, %s and %s afterwards" % (free, *words[3:])
+                judged(title, tally, place, before, said, b"", as_they_were(*words[3:]), ["No space left"])
 
 
 def usages(tally):
-    for words in ([], ["store"], ["store", "records"], ["store", "records", "after", "store"]):
-        lent(tally, "%d names" % len(words), good(), words, undone="lent: not done:", says=["usage: lent STORE RECORDS AFTER"])
+    usage = "usage: lent STORE JOURNAL RECORDS STORE_AFTER JOURNAL_AFTER"
+    for words in ([], NAMES[:1], NAMES[:3], NAMES[:4], [*NAMES, "store"]):
+        lent(tally, "%d names" % len(words), good(), words, undone="lent: not done:", says=[usage])
     for word in ("-h", "--help"):
         with Room() as room:
             said = room.run("lent", [word])
-            right = said.out.startswith(b"usage: lent STORE RECORDS AFTER") and not said.err
+            right = said.out.startswith(usage.encode()) and not said.err
             tally.add("lent: " + word, [] if right else ["should print its usage, wrote %r and said %r" % (said.out, said.err)])
 
 
 def kills(tally, rounds):
-    """Killed at some moment, AFTER is the old or the new one, whole; the next run is not hindered."""
+    """Killed at some moment, each file is the old or the new one, whole, and what was there first is new first; the next run is not hindered."""
     rng = random.Random(13)
     store = image(State(1024))
-    lines, after = answer_lent(store, SHEET)
-    early = late = 0
+    lines, left = answered(store, JOURNAL, BATCH)
+    seen = {(False, False): 0, (False, True): 0, (True, True): 0}
     wrong = []
     with Room() as room:
-        room.put(good(store=store))
+        room.put(good(store=store, records=BATCH))
         began = time.time()
         room.run("lent", NAMES)
         length = time.time() - began
     for _ in range(rounds):
         with Room() as room:
-            room.put(good(store=store))
+            room.put(good(store=store, records=BATCH))
             running = subprocess.Popen(command("lent") + SAME, cwd=room.folder, stdout=subprocess.PIPE, stderr=subprocess.PIPE)
             time.sleep(rng.random() * length * 1.1)
             running.kill()
             running.communicate()
-            left = room.files()["store"]
-            early += left == store
-            late += left == after
-            if left not in (store, after):
-                wrong.append("STORE is neither the old nor the new one, but %s" % shown(left))
-            room.put({"store": store})
+            files = room.files()
+            for name, old, new in (("store", store, left["after"]), ("journal", JOURNAL, left["kept"])):
+                if files[name] not in (old, new):
+                    wrong.append("%s is neither the old nor the new one, but %s" % (name, shown(files[name])))
+            new = (files["store"] == left["after"], files["journal"] == left["kept"])
+            if new not in seen:
+                wrong.append("the store is new and the journal of its open batch is not")
+            else:
+                seen[new] += 1
+            room.put({"store": store, "journal": JOURNAL})
             said = room.run("lent", SAME)
-            if said.out != text(lines) or said.err or room.files()["store"] != after:
+            if said.out != lines or said.err or room.files()["store"] != left["after"]:
                 wrong.append("the next run should work, said %r" % said.err)
-    tally.add("lent: killed at %d moments: %d times the old store was left, %d times the new one" % (rounds, early, late), wrong)
+    title = "lent: killed at %d moments: %d times both were old, %d times the journal was new, %d times both were" % (rounds, *seen.values())
+    tally.add(title, wrong)
 
 
 def play(tally, rounds):
-    for part in (whole_runs, wrong_names, no_stores, outputs, without_standard_files, full_disks, usages):
+    for part in (whole_runs, batches, wrong_names, no_stores, outputs, without_standard_files, full_disks, usages):
         part(tally)
     kills(tally, rounds)
