@@ -15,6 +15,7 @@ import threading
 import time
 
 from kiosk_faults import taken_over
+from lent_faults import BACK, KEEP, OPEN
 from room import Room, Tally, command, shown
 
 from cases import name  # noqa: E402
@@ -64,7 +65,7 @@ class Log:
 
 
 def stock(seed):
-    """Records of the generators, whole and broken ones, and between them some of bad length."""
+    """Records of the generators, whole and broken ones, and between them some of bad length and of batches."""
     rng = random.Random("stock %d" % seed)
     found = []
     for (_, one), (_, other) in zip(inside(seed, 1500, 70), broken(seed, 1500)):
@@ -72,6 +73,7 @@ def stock(seed):
         found += [len(body).to_bytes(2, "big") + body for body in bodies]
         size = rng.choice([0, 1, 4097, 9999])
         found.append(size.to_bytes(2, "big") + bytes(size))
+        found.append(rng.choice([OPEN, KEEP, BACK]))
     return found
 
 

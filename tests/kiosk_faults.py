@@ -7,7 +7,7 @@ import subprocess
 import threading
 import time
 
-from lent_faults import STORE, judged
+from lent_faults import BACK, KEEP, OPEN, STORE, judged
 from room import EMULATED, ROOT, Room, command, disk, shown
 
 from cases import column, key, name, values  # noqa: E402
@@ -145,6 +145,16 @@ def taking_over(tally):
     told = taken_over(count, len(SHEET))
     kiosk(tally, "LOG is taken over", {"log": SHEET}, source=SCANS, out=LATER, changed={"log": SHEET + SCANS}, err=told)
     kiosk(tally, "LOG is taken over, nothing comes in", {"log": SHEET}, source=b"", out=b"", err=told)
+    begun = SHEET[:79] + OPEN + SHEET[79:]  # a batch that is left open
+    told_begun = taken_over(count + 1, len(begun))
+    for title, ending in [("taken back", BACK), ("kept", KEEP)]:
+        later = lines_of(begun + ending + SCANS)[len(lines_of(begun)) :]
+        kiosk(tally, "LOG leaves a batch open, which is then " + title, {"log": begun}, source=ending + SCANS, out=later,
+              changed={"log": begun + ending + SCANS}, err=told_begun)
+    ended = begun + BACK
+    later = lines_of(ended + SCANS)[len(lines_of(ended)) :]
+    kiosk(tally, "LOG has a batch that was taken back", {"log": ended}, source=SCANS, out=later, changed={"log": ended + SCANS},
+          err=taken_over(count + 2, len(ended)))
     broken = b"\0\2\2\1" + b"\0\0" + b"\0\2\1\0"
     kiosk(tally, "LOG begins with broken records", {"log": broken + SHEET}, source=SCANS, out=LATER,
           changed={"log": broken + SHEET + SCANS}, err=taken_over(count + 3, len(SHEET) + len(broken)))

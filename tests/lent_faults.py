@@ -27,7 +27,7 @@ def data(name):
 STORE, SHEET, SCAN = data("fresh.store"), data("sheet.records"), data("scan.records")
 SPOILED, CUT = data("spoiled.store"), data("cut.store")
 JOURNAL = bytes(journal_size(70))
-OPEN, BACK = b"\0\2\1\x0c", b"\0\2\1\x0e"
+OPEN, KEEP, BACK = b"\0\2\1\x0c", b"\0\2\1\x0d", b"\0\2\1\x0e"
 BATCH = SHEET[:79] + OPEN + SHEET[79:]  # the sheet, a batch being opened behind its first three records and left open
 
 
