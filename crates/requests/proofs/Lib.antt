@@ -6,6 +6,7 @@ pub mod Entries
 pub mod OneAnswer
 pub mod AllAnswered
 pub mod SheetPrinted
+pub mod Batching
 pub mod Copied
 pub mod Fitting
 pub mod LinesLeft

@@ -17,9 +17,10 @@ use Rattle.areas.proofs.Sorting.{keep-length}
 use Rattle.rules.specs.declared.profile.Profile.{Profile}
 use Rattle.rules.specs.declared.answer.Refusal.the-variants.{NotIndexed, UnknownTable}
 use Rattle.rules.specs.State.{Name, Row, State, tableNamed, ofTable, cellAt}
+use Rattle.rules.specs.Journal.{Journal, Books}
 use Rattle.rules.specs.Layout.{parse}
 use Rattle.rules.specs.Schema.{first, at}
-use Rattle.rules.specs.Request.{Request, Create, Drop, Insert, Update, Delete, Get, Lookup, Scan, Names, entered, no}
+use Rattle.rules.specs.Request.{Request, Create, Drop, Insert, Update, Delete, Get, Lookup, Scan, Names, Open, Keep, Back, entered, no}
 use Rattle.rules.specs.Step.{Outcome, settle, refused, shows, lookedUp, lookup, isIndexed, isAccepted, act, step}
 use Rattle.rules.proofs.Refusals.{isWrite, write-silent, answers}
 use Rattle.rules.proofs.Tests.{by-option}
@@ -32,7 +33,7 @@ use Rattle.requests.specs.Lines.{rowLine, rowLines, rowMost, answerLine}
 use Rattle.requests.proofs.Copied.{front-is, front-told, front-copied, front-back}
 use Rattle.requests.proofs.Fitting.{lines-all, lines-stay, lines-next}
 use Rattle.requests.proofs.Fronts.{front-length}
-use Rattle.requests.specs.Places.{keyLine, linesFrom, NextLine, ended, wrote, textFrom, linesTo, Wrote}
+use Rattle.requests.specs.Places.{beside, keyLine, linesFrom, NextLine, ended, wrote, textFrom, linesTo, Wrote}
 
 -- ---- at the start all of them are left
 
@@ -75,17 +76,20 @@ module _ (p : Profile) (R : ℕ) (s : List ℕ) (b : LaidStore p R s) where
         (λ e. refl)
         (λ t e. looked-up (isIndexed t i))
 
-  read-start : (q : Request) → isWrite q ≡ false → (act p R st q) .lines ≡ linesFrom st q 0 null
+  read-start : (q : Request) → isWrite q ≡ false → (x : Journal) → (act p R (beside st x) q) .lines ≡ linesFrom st q 0 null
   unfolding act linesFrom
-  read-start (Create t) h = absurd (true≢false h)
-  read-start (Drop n x) h = absurd (true≢false h)
-  read-start (Insert n m rows) h = absurd (true≢false h)
-  read-start (Update n qs) h = absurd (true≢false h)
-  read-start (Delete n ks) h = absurd (true≢false h)
-  read-start (Get n ks) h = refl
-  read-start (Lookup n i vs) h = lookup-start n i vs
-  read-start (Scan n) h = refl
-  read-start Names h = refl
+  read-start (Create t) h x = absurd (true≢false h)
+  read-start (Drop n f) h x = absurd (true≢false h)
+  read-start (Insert n m rows) h x = absurd (true≢false h)
+  read-start (Update n qs) h x = absurd (true≢false h)
+  read-start (Delete n ks) h x = absurd (true≢false h)
+  read-start (Get n ks) h x = refl
+  read-start (Lookup n i vs) h x = lookup-start n i vs
+  read-start (Scan n) h x = refl
+  read-start Names h x = refl
+  read-start Open h x = absurd (true≢false h)
+  read-start Keep h x = absurd (true≢false h)
+  read-start Back h x = absurd (true≢false h)
 
   write-start : (q : Request) → isWrite q ≡ true → linesFrom st q 0 null ≡ []
   unfolding linesFrom
@@ -98,18 +102,25 @@ module _ (p : Profile) (R : ℕ) (s : List ℕ) (b : LaidStore p R s) where
   write-start (Lookup n i vs) h = absurd (true≢false (sym h))
   write-start (Scan n) h = absurd (true≢false (sym h))
   write-start Names h = absurd (true≢false (sym h))
+  write-start Open h = refl
+  write-start Keep h = refl
+  write-start Back h = refl
 
-  step-start : (q : Request) → entered q ≡ q → (w : Bool) → isWrite q ≡ w → (step p R st q) .lines ≡ linesFrom st q 0 null
-  unfolding step
-  step-start q e true h = write-silent p R st q h ∙ sym (write-start q h)
-  step-start q e false h = ap (λ (x : Request). (act p R st x) .lines) e ∙ read-start q h
+  module _ (x : Journal) where
+    abbrev books : Books
+    books = beside st x
 
-  -- the lines of an outcome
-  pub lines-start : (r : Read Request) → isGot r ≡ true → ((q : Request) (end : ℕ) → r ≡ got q end → entered q ≡ q)
-      → linesFrom st (gotOr Names r) 0 null ≡ (outcomeOf p R st r) .lines
-  unfolding isGot gotOr outcomeOf
-  lines-start (got q end) h e = sym (step-start q (e q end refl) (isWrite q) refl)
-  lines-start (broken x) h e = absurd (true≢false (sym h))
+    step-start : (q : Request) → entered q ≡ q → (w : Bool) → isWrite q ≡ w → (step p R books q) .lines ≡ linesFrom st q 0 null
+    unfolding step
+    step-start q e true h = write-silent p R books q h ∙ sym (write-start q h)
+    step-start q e false h = ap (λ (y : Request). (act p R books y) .lines) e ∙ read-start q h x
+
+    -- the lines of an outcome
+    pub lines-start : (r : Read Request) → isGot r ≡ true → ((q : Request) (end : ℕ) → r ≡ got q end → entered q ≡ q)
+        → linesFrom st (gotOr Names r) 0 null ≡ (outcomeOf p R books r) .lines
+    unfolding isGot gotOr outcomeOf
+    lines-start (got q end) h e = sym (step-start q (e q end refl) (isWrite q) refl)
+    lines-start (broken n) h e = absurd (true≢false (sym h))
 
 -- ---- there are no more of them than the answer says
 
@@ -120,21 +131,24 @@ shown-counted : (o : Outcome) (b : Bool) → isAccepted (o .reply) ≡ b → (is
 shown-counted o true e h f = let k = f e in omega arith
 shown-counted o false e h f = none-counted o (h e)
 
-step-counted : (p : Profile) (R : ℕ) (st : State) (q : Request) → length ((step p R st q) .lines) ≤ (step p R st q) .reply .count
-step-counted p R st (Create t) = none-counted (step p R st (Create t)) (write-silent p R st (Create t) refl)
-step-counted p R st (Drop n x) = none-counted (step p R st (Drop n x)) (write-silent p R st (Drop n x) refl)
-step-counted p R st (Insert n m rows) = none-counted (step p R st (Insert n m rows)) (write-silent p R st (Insert n m rows) refl)
-step-counted p R st (Update n qs) = none-counted (step p R st (Update n qs)) (write-silent p R st (Update n qs) refl)
-step-counted p R st (Delete n ks) = none-counted (step p R st (Delete n ks)) (write-silent p R st (Delete n ks) refl)
-step-counted p R st (Get n ks) = shown-counted (step p R st (Get n ks)) _ refl (answers p R st (Get n ks) .no-lines) (answers p R st (Get n ks) .count)
-step-counted p R st (Lookup n i vs) = shown-counted (step p R st (Lookup n i vs)) _ refl (answers p R st (Lookup n i vs) .no-lines) (answers p R st (Lookup n i vs) .count)
-step-counted p R st (Scan n) = shown-counted (step p R st (Scan n)) _ refl (answers p R st (Scan n) .no-lines) (answers p R st (Scan n) .count)
-step-counted p R st Names = shown-counted (step p R st Names) _ refl (answers p R st Names .no-lines) (answers p R st Names .count)
+step-counted : (p : Profile) (R : ℕ) (b : Books) (q : Request) → length ((step p R b q) .lines) ≤ (step p R b q) .reply .count
+step-counted p R b (Create t) = none-counted (step p R b (Create t)) (write-silent p R b (Create t) refl)
+step-counted p R b (Drop n x) = none-counted (step p R b (Drop n x)) (write-silent p R b (Drop n x) refl)
+step-counted p R b (Insert n m rows) = none-counted (step p R b (Insert n m rows)) (write-silent p R b (Insert n m rows) refl)
+step-counted p R b (Update n qs) = none-counted (step p R b (Update n qs)) (write-silent p R b (Update n qs) refl)
+step-counted p R b (Delete n ks) = none-counted (step p R b (Delete n ks)) (write-silent p R b (Delete n ks) refl)
+step-counted p R b (Get n ks) = shown-counted (step p R b (Get n ks)) _ refl (answers p R b (Get n ks) .no-lines) (answers p R b (Get n ks) .count)
+step-counted p R b (Lookup n i vs) = shown-counted (step p R b (Lookup n i vs)) _ refl (answers p R b (Lookup n i vs) .no-lines) (answers p R b (Lookup n i vs) .count)
+step-counted p R b (Scan n) = shown-counted (step p R b (Scan n)) _ refl (answers p R b (Scan n) .no-lines) (answers p R b (Scan n) .count)
+step-counted p R b Names = shown-counted (step p R b Names) _ refl (answers p R b Names .no-lines) (answers p R b Names .count)
+step-counted p R b Open = none-counted (step p R b Open) (write-silent p R b Open refl)
+step-counted p R b Keep = none-counted (step p R b Keep) (write-silent p R b Keep refl)
+step-counted p R b Back = none-counted (step p R b Back) (write-silent p R b Back refl)
 
-pub lines-counted : (p : Profile) (R : ℕ) (st : State) (r : Read Request) → length ((outcomeOf p R st r) .lines) ≤ (outcomeOf p R st r) .reply .count
+pub lines-counted : (p : Profile) (R : ℕ) (b : Books) (r : Read Request) → length ((outcomeOf p R b r) .lines) ≤ (outcomeOf p R b r) .reply .count
 unfolding outcomeOf
-lines-counted p R st (got q end) = step-counted p R st q
-lines-counted p R st (broken x) = omega arith
+lines-counted p R b (got q end) = step-counted p R b q
+lines-counted p R b (broken x) = omega arith
 
 -- ---- the next one, or none
 

@@ -25,7 +25,7 @@ use Rattle.values.proofs.Orders.{ordValue, self, opp, lt-at}
 use Rattle.areas.proofs.Sorting.{all-below, find-in, find-none}
 use Rattle.rules.specs.declared.profile.Profile.{Profile}
 use Rattle.rules.specs.Layout.{lists, tablesCount, parse}
-use Rattle.rules.specs.Request.{Request, Get, Lookup, Scan, Names, Reply}
+use Rattle.rules.specs.Request.{Request, Get, Lookup, Scan, Names, Open, Keep, Back, Reply}
 use Rattle.rules.specs.State.{Name, Row, State, Table, cmpRow, isNamed, tableNamed, ofTable, isRow, rowWith, cellAt}
 use Rattle.rules.specs.Step.{found, lookup, lookedUp, isAccepted, isIndexed}
 use Rattle.rules.proofs.Lists.{keep-nothing, keep-ext, map-sorted, nth-in}
@@ -434,6 +434,15 @@ abbrev Silent : Request → Type 0
 Silent q = (s : State) (i : ℕ) (k : Value) → linesFrom s q i k ≡ []
 
 module _ (rec : List ℕ) (p : Profile) (k : ℕ) (n9 : k ≡ 9 → ⊥) where
+  -- operations 12 to 14
+  batch-silent : Says Silent (cond (eqb k 12) (got Open 2) (cond (eqb k 13) (got Keep 2) (cond (eqb k 14) (got Back 2) (broken 1))))
+  unfolding linesFrom
+  batch-silent =
+      says-either Silent (eqb k 12) _ _ (λ h. says-got Silent _ _ (λ s i v. refl))
+      (λ h.
+      says-either Silent (eqb k 13) _ _ (λ h. says-got Silent _ _ (λ s i v. refl))
+      (λ h. says-either Silent (eqb k 14) _ _ (λ h. says-got Silent _ _ (λ s i v. refl)) (λ h. says-broken Silent 1)))
+
   -- operations 1 to 5
   silent-operands : (k ≡ 6 → ⊥) → (k ≡ 7 → ⊥) → (k ≡ 8 → ⊥) → Says Silent (operandsAt rec p k 2)
   unfolding operandsAt createAt dropAt insertAt updateAt keysAt linesFrom
@@ -453,31 +462,32 @@ module _ (rec : List ℕ) (p : Profile) (k : ℕ) (n9 : k ≡ 9 → ⊥) where
       says-either Silent (eqb k 7) _ _ (λ h. absurd (n7 (eqb-true k 7 h)))
       (λ h.
       says-either Silent (eqb k 8) _ _ (λ h. absurd (n8 (eqb-true k 8 h)))
-      (λ h. says-either Silent (eqb k 9) _ _ (λ h. absurd (n9 (eqb-true k 9 h))) (λ h. says-broken Silent 1)))))))))
+      (λ h.
+      says-either Silent (eqb k 9) _ _ (λ h. absurd (n9 (eqb-true k 9 h)))
+      (λ h. batch-silent)))))))))
 
-  abbrev Never : Request → Type 0
-  Never q = ⊥
-
-  -- each but 9 begins with a name
-  nameless-operands : (x : ℕ) → nameAt rec 2 ≡ broken x → Says Never (operandsAt rec p k 2)
+  -- each of them begins with a name
+  nameless-operands : (x : ℕ) → nameAt rec 2 ≡ broken x → Says Silent (operandsAt rec p k 2)
   unfolding operandsAt createAt dropAt insertAt updateAt keysAt lookupAt scanAt
   nameless-operands x e =
-      says-either Never (eqb k 1) _ _ (λ h. says-stopped Never _ _ x e)
+      says-either Silent (eqb k 1) _ _ (λ h. says-stopped Silent _ _ x e)
       (λ h.
-      says-either Never (eqb k 2) _ _ (λ h. says-stopped Never _ _ x e)
+      says-either Silent (eqb k 2) _ _ (λ h. says-stopped Silent _ _ x e)
       (λ h.
-      says-either Never (eqb k 3) _ _ (λ h. says-stopped Never _ _ x e)
+      says-either Silent (eqb k 3) _ _ (λ h. says-stopped Silent _ _ x e)
       (λ h.
-      says-either Never (eqb k 4) _ _ (λ h. says-stopped Never _ _ x e)
+      says-either Silent (eqb k 4) _ _ (λ h. says-stopped Silent _ _ x e)
       (λ h.
-      says-either Never (eqb k 5) _ _ (λ h. says-stopped Never _ _ x e)
+      says-either Silent (eqb k 5) _ _ (λ h. says-stopped Silent _ _ x e)
       (λ h.
-      says-either Never (eqb k 6) _ _ (λ h. says-stopped Never _ _ x e)
+      says-either Silent (eqb k 6) _ _ (λ h. says-stopped Silent _ _ x e)
       (λ h.
-      says-either Never (eqb k 7) _ _ (λ h. says-stopped Never _ _ x e)
+      says-either Silent (eqb k 7) _ _ (λ h. says-stopped Silent _ _ x e)
       (λ h.
-      says-either Never (eqb k 8) _ _ (λ h. says-stopped Never _ _ x e)
-      (λ h. says-either Never (eqb k 9) _ _ (λ h. absurd (n9 (eqb-true k 9 h))) (λ h. says-broken Never 1)))))))))
+      says-either Silent (eqb k 8) _ _ (λ h. says-stopped Silent _ _ x e)
+      (λ h.
+      says-either Silent (eqb k 9) _ _ (λ h. absurd (n9 (eqb-true k 9 h)))
+      (λ h. batch-silent)))))))))
 
 -- ---- the next line of the request that a record says, by its operation o
 
@@ -488,13 +498,16 @@ module _ (rec : List ℕ) (p : Profile) (h : isGot (requestOf rec p) ≡ true) (
   operated : (m : ℕ) → o ≡ m → operandsAt rec p m 2 ≡ got (saying rec p h .request) (saying rec p h .end)
   operated m e = ap (λ (j : ℕ). operandsAt rec p j 2) (sym e ∙ eo) ∙ saying rec p h .operands
 
-  pub nameless-never : (o ≡ 9 → ⊥) → (x : ℕ) → nameAt rec 2 ≡ broken x → ⊥
-  nameless-never n9 x e = says-of (λ q. ⊥) (operandsAt rec p o 2) (saying rec p h .request) (saying rec p h .end) (operated o refl) (nameless-operands rec p o n9 x e)
+  no-lines : Says Silent (operandsAt rec p o 2) → (s : State) (i : ℕ) (k : Value) → linesFrom s said i k ≡ []
+  no-lines q s i k =
+      ap (λ (q : Request). linesFrom s q i k) (saying rec p h .is)
+      ∙ says-of Silent (operandsAt rec p o 2) (saying rec p h .request) (saying rec p h .end) (operated o refl) q s i k
+
+  pub nameless-said : (o ≡ 9 → ⊥) → (x : ℕ) → nameAt rec 2 ≡ broken x → (s : State) (i : ℕ) (k : Value) → linesFrom s said i k ≡ []
+  nameless-said n9 x e = no-lines (nameless-operands rec p o n9 x e)
 
   pub silent-said : (o ≡ 6 → ⊥) → (o ≡ 7 → ⊥) → (o ≡ 8 → ⊥) → (o ≡ 9 → ⊥) → (s : State) (i : ℕ) (k : Value) → linesFrom s said i k ≡ []
-  silent-said n6 n7 n8 n9 s i k =
-      ap (λ (q : Request). linesFrom s q i k) (saying rec p h .is)
-      ∙ says-of Silent (operandsAt rec p o 2) (saying rec p h .request) (saying rec p h .end) (operated o refl) (silent-operands rec p o n9 n6 n7 n8) s i k
+  silent-said n6 n7 n8 n9 = no-lines (silent-operands rec p o n9 n6 n7 n8)
 
   module _ (t : List ℕ) (n : ℕ) (hn : nameAt rec 2 ≡ got t n) where
     pub get-inside : o ≡ 6 → n < length rec

@@ -1,8 +1,8 @@
--- No second answer would do: what is promised of lines written, of a run and of many records says one answer, one output and one store.
+-- No second answer would do: what is promised of lines written, of a run and of many records says one answer, one output, one store and one journal.
 -- Assumes nothing.
-use Prim.Native.Nat.{ℕ, _+_, _≤_}
+use Prim.Native.Nat.{ℕ, _≤_}
 use native.Mathlib.Omega.{arith}
-use mathlib.Core.Path.{_≡_, refl, sym, ap, _∙_}
+use mathlib.Core.Path.{_≡_, refl, sym, ap, _∙_, subst}
 use mathlib.Core.Bool.{Bool, true, false, cond}
 use mathlib.Core.List.{List, [], _++_}
 use lib.Dec.{leb}
@@ -10,16 +10,18 @@ use lib.ListN.{length, take, drop, length-append}
 use lib.Seq.{take-at, length-take-le}
 use Rattle.rules.specs.declared.profile.Profile.{Profile}
 use Rattle.rules.specs.declared.answer.Refusal.the-variants.{StoreUnsound}
-use Rattle.rules.specs.Layout.{image, placesOf}
+use Rattle.rules.specs.Journal.{Books}
+use Rattle.rules.specs.Layout.{placesOf}
 use Rattle.rules.specs.Request.{no}
 use Rattle.rules.specs.Step.{Outcome}
-use Rattle.rules.specs.Sound.{sound}
+use Rattle.rules.specs.Pages.{booksOf, soundBooks}
+use Rattle.journal.specs.Books.{BytesOf}
 use Rattle.requests.specs.declared.entry.Halt.{Halt}
 use Rattle.requests.specs.declared.entry.Ran.{Ran}
 use Rattle.requests.specs.declared.lines.Put.{Put}
 use Rattle.requests.specs.Lines.{answerLine, answerMost}
 use Rattle.requests.specs.Places.{textFrom, Wrote}
-use Rattle.requests.specs.Stream.{Reach, bytesOf, textOf, stateThen, recordsLeft, Runs, Refuses, Many}
+use Rattle.requests.specs.Stream.{Reach, bytesOf, textOf, booksThen, recordsLeft, Runs, Refuses, Many}
 
 -- ---- what was written, where the same text is left
 
@@ -60,6 +62,11 @@ one-put o i before after after′ r r′ x y =
 
 -- ---- a run
 
+pub bytes-one : (p : Profile) (R : ℕ) {b b′ : Books} {s₁ j₁ s₂ j₂ : List ℕ} → b ≡ b′ → BytesOf p R b s₁ j₁ → BytesOf p R b′ s₂ j₂ → (s₁ ≡ s₂) × (j₁ ≡ j₂)
+bytes-one p R {b} {b′} {s₁} {j₁} {s₂} {j₂} e x y =
+    let z = subst (λ (c : Books). BytesOf p R c s₁ j₁) e x in
+    (z .store ∙ sym (y .store), z .journal ∙ sym (y .journal))
+
 ran-one : (r r′ : Ran) → r .halt ≡ r′ .halt → r .taken ≡ r′ .taken → r .skip ≡ r′ .skip → r .count ≡ r′ .count → r .written ≡ r′ .written
     → r .lines ≡ r′ .lines
     → r ≡ r′
@@ -71,16 +78,16 @@ ran-one r r′ h t s c w l =
     ∙ ap (λ (x : ℕ). record { halt = r′ .halt; taken = r′ .taken; skip = r′ .skip; count = r′ .count; written = x; lines = r .lines }) w
     ∙ ap (λ (x : ℕ). record { halt = r′ .halt; taken = r′ .taken; skip = r′ .skip; count = r′ .count; written = r′ .written; lines = x }) l
 
-module _ (p : Profile) (input : List ℕ) (ended : Bool) (i : ℕ) (before after after′ out done done′ : List ℕ) (r r′ : Ran) where
-  pub one-run : (R : ℕ) → Runs p R input ended i before after out done r → Runs p R input ended i before after′ out done′ r′
-      → (r ≡ r′) × (after ≡ after′) × (done ≡ done′)
+module _ (p : Profile) (input : List ℕ) (ended : Bool) (i : ℕ) (s j s₁ j₁ s₂ j₂ out done done′ : List ℕ) (r r′ : Ran) where
+  pub one-run : (R : ℕ) → Runs p R input ended i s j s₁ j₁ out done r → Runs p R input ended i s j s₂ j₂ out done′ r′
+      → (r ≡ r′) × ((s₁ ≡ s₂) × (j₁ ≡ j₂)) × (done ≡ done′)
   one-run R x y =
       let e = x .reached ∙ sym (y .reached) in
       let h : r .halt ≡ r′ .halt = ap (λ (z : Reach). z .halt) e in
       let c : r .count ≡ r′ .count = ap (λ (z : Reach). z .count) e in
       let l : r .lines ≡ r′ .lines = ap (λ (z : Reach). z .lines) e in
       let b : bytesOf (r .count) input ended ≡ bytesOf (r′ .count) input ended = ap (λ (n : ℕ). bytesOf n input ended) c in
-      let rest : ℕ → ℕ → List ℕ = λ n j. textOf p R (stateThen p R input ended before n) (recordsLeft p input ended n) j in
+      let rest : ℕ → ℕ → List ℕ = λ n i. textOf p R (booksThen p R input ended (booksOf p R s j) n) (recordsLeft p input ended n) i in
       let t =
       sym (x .text)
       ∙ y .text
@@ -92,33 +99,34 @@ module _ (p : Profile) (input : List ℕ) (ended : Bool) (i : ℕ) (before after
       (omega (arith, x .fits, x .long)) (omega (arith, y .fits, y .long)) (x .front) (y .front)
       in (
         ran-one r r′ h (omega (arith, x .passed, y .passed, b)) (omega (arith, x .over, y .over, b)) c (w .0) l,
-        x .bytes ∙ ap (λ (n : ℕ). image p R (stateThen p R input ended before n)) c ∙ sym (y .bytes),
+        bytes-one p R (ap (λ (n : ℕ). booksThen p R input ended (booksOf p R s j) n) c) (x .bytes) (y .bytes),
         w .1,
       )
 
-  -- ---- an unsound store refused
+  -- ---- unsound buffers refused
 
-  refused-one : Refuses i before after out done r → Refuses i before after′ out done′ r′ → (r ≡ r′) × (after ≡ after′) × (done ≡ done′)
+  refused-one : Refuses i s j s₁ j₁ out done r → Refuses i s j s₂ j₂ out done′ r′ → (r ≡ r′) × ((s₁ ≡ s₂) × (j₁ ≡ j₂)) × (done ≡ done′)
   refused-one x y =
       let w : r .written ≡ r′ .written = x .line .count ∙ sym (y .line .count) in
       let line : List ℕ = cond (leb answerMost (length out)) (answerLine (no StoreUnsound 0)) [] in
-      let (t, s, c, l) = x .nothing in
-      let (t′, s′, c′, l′) = y .nothing in (
-        ran-one r r′ (x .halt ∙ sym (y .halt)) (t ∙ sym t′) (s ∙ sym s′) (c ∙ sym c′) w (l ∙ sym l′),
-        x .bytes ∙ sym (y .bytes),
+      let (t, k, c, l) = x .nothing in
+      let (t′, k′, c′, l′) = y .nothing in (
+        ran-one r r′ (x .halt ∙ sym (y .halt)) (t ∙ sym t′) (k ∙ sym k′) (c ∙ sym c′) w (l ∙ sym l′),
+        (x .bytes .0 ∙ sym (y .bytes .0), x .bytes .1 ∙ sym (y .bytes .1)),
         x .line .bytes ∙ ap (λ (n : ℕ). line ++ drop n out) w ∙ sym (y .line .bytes),
       )
 
   -- ---- many records
 
-  module _ (x : Many p input ended i before after out done r) (y : Many p input ended i before after′ out done′ r′) where
-    both : (b : Bool) → sound p before ≡ b → (r ≡ r′) × (after ≡ after′) × (done ≡ done′)
-    both true e = one-run (placesOf p before) (x .runs e) (y .runs e)
+  module _ (x : Many p input ended i s j s₁ j₁ out done r) (y : Many p input ended i s j s₂ j₂ out done′ r′) where
+    both : (b : Bool) → soundBooks p s j ≡ b → (r ≡ r′) × ((s₁ ≡ s₂) × (j₁ ≡ j₂)) × (done ≡ done′)
+    both true e = one-run (placesOf p s) (x .runs e) (y .runs e)
     both false e = refused-one (x .refuses e) (y .refuses e)
 
     -- the answer, and every byte of the output
     pub many-answer : (r ≡ r′) × (done ≡ done′)
-    many-answer = let z = both (sound p before) refl in (z .0, z .2)
+    many-answer = let z = both (soundBooks p s j) refl in (z .0, z .2)
 
-    pub many-store : after ≡ after′
-    many-store = both (sound p before) refl .1
+    -- and of both buffers
+    pub many-buffers : (s₁ ≡ s₂) × (j₁ ≡ j₂)
+    many-buffers = both (soundBooks p s j) refl .1

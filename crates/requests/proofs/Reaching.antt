@@ -8,9 +8,9 @@ use lib.ListN.{length}
 use borrow.Author.Tests.{lt-ltb, le-ltb, le-leb, lt-leb}
 use Rattle.forms.specs.Read.{Read}
 use Rattle.rules.specs.declared.profile.Profile.{Profile}
-use Rattle.rules.specs.State.{State}
+use Rattle.rules.specs.Journal.{Books}
 use Rattle.rules.specs.Request.{Request}
-use Rattle.rules.specs.Step.{Outcome, applyAll}
+use Rattle.rules.specs.Step.{Outcome, changed}
 use Rattle.requests.specs.declared.entry.Halt.the-variants.{Full, Waiting, Stopped}
 use Rattle.requests.specs.Lines.{rowMost}
 use Rattle.operations.specs.Told.{outcomeOf}
@@ -28,26 +28,26 @@ further-none x =
     let e : 0 + x .count ≡ x .count = omega arith in
     ap (λ (k : ℕ). record { count = k; lines = x .lines; halt = x .halt }) e
 
-module _ (p : Profile) (R : ℕ) (ended : Bool) (s : State) (i room : ℕ) where
-  pub reach-full : (qs : List (Read Request)) → room < rowMost → reach p R ended s qs i room ≡ halted i Full
+module _ (p : Profile) (R : ℕ) (ended : Bool) (b : Books) (i room : ℕ) where
+  pub reach-full : (qs : List (Read Request)) → room < rowMost → reach p R ended b qs i room ≡ halted i Full
   unfolding reach
   reach-full [] h = rw (lt-ltb room rowMost h)
   reach-full (q ∷ qs) h = rw (lt-ltb room rowMost h)
 
   module _ (begun : rowMost ≤ room) where
-    pub reach-end : reach p R ended s [] i room ≡ halted i (cond ended Stopped Waiting)
+    pub reach-end : reach p R ended b [] i room ≡ halted i (cond ended Stopped Waiting)
     unfolding reach
     reach-end = rw (le-ltb room rowMost begun)
 
     module _ (q : Read Request) (qs : List (Read Request)) where
       abbrev o : Outcome
-      o = outcomeOf p R s q
+      o = outcomeOf p R b q
 
       pub reach-on : length (textFrom o i) ≤ room
-          → reach p R ended s (q ∷ qs) i room ≡ further 1 (reach p R ended (applyAll (o .changes) s) qs 0 (room - length (textFrom o i)))
+          → reach p R ended b (q ∷ qs) i room ≡ further 1 (reach p R ended (changed (o .changes) b) qs 0 (room - length (textFrom o i)))
       unfolding reach
       reach-on h = rw (le-ltb room rowMost begun, le-leb (length (textFrom o i)) room h)
 
-      pub reach-stays : room < length (textFrom o i) → reach p R ended s (q ∷ qs) i room ≡ halted (linesTo o i room) Full
+      pub reach-stays : room < length (textFrom o i) → reach p R ended b (q ∷ qs) i room ≡ halted (linesTo o i room) Full
       unfolding reach
       reach-stays h = rw (le-ltb room rowMost begun, lt-leb (length (textFrom o i)) room h)

@@ -16,15 +16,14 @@ use Rattle.forms.specs.Print.{Front}
 use Rattle.rules.specs.declared.profile.Profile.{Profile}
 use Rattle.rules.specs.declared.answer.Answer.{Answer}
 use Rattle.rules.specs.declared.answer.Refusal.the-variants.{RecordBroken}
-use Rattle.rules.specs.State.{State}
-use Rattle.rules.specs.Layout.{parse, image}
+use Rattle.rules.specs.Journal.{Books}
 use Rattle.rules.specs.Request.{Request, said, no}
 use Rattle.rules.specs.Readable.{readable}
-use Rattle.rules.specs.Step.{Change, Outcome, applyAll}
-use Rattle.rules.proofs.Valid.{Valid}
-use Rattle.laid.specs.Store.{Store}
-use Rattle.laid.proofs.Stores.{store-valid}
-use Rattle.store.proofs.Written.{store-again, reads-back}
+use Rattle.rules.specs.Step.{Change, Outcome, applyAll, noteAll, changed}
+use Rattle.rules.specs.Pages.{booksOf}
+use Rattle.rules.proofs.Backed.{Right}
+use Rattle.journal.specs.Books.{Booked, BytesOf}
+use Rattle.journal.proofs.Booking.{right-of, booked-bytes, next-are, next-booked}
 use Rattle.records.specs.declared.frame.Framed.{Framed}
 use Rattle.records.specs.declared.frame.Framed.the-variants.{Whole, Skip, More, Cut, Done}
 use Rattle.requests.specs.declared.entry.Halt.{Halt}
@@ -35,7 +34,7 @@ use Rattle.records.specs.Frame.{framed}
 use Rattle.requests.specs.Lines.{rowMost}
 use Rattle.operations.specs.Told.{outcomeOf}
 use Rattle.requests.specs.Places.{textFrom, linesTo, Wrote}
-use Rattle.requests.specs.Stream.{inFrame, recordsIn, inBytes, bytesOf, textOf, stateOf, Answered, stateThen, recordsLeft, Runs}
+use Rattle.requests.specs.Stream.{inFrame, recordsIn, inBytes, bytesOf, textOf, booksAfter, Answered, booksThen, recordsLeft, Runs}
 use Rattle.requests.specs.Stream.{halted, further, reach}
 use Rattle.mapping.proofs.Read.{read-readable}
 use Rattle.requests.proofs.Answering.{Only, broken-answered, broken-outcome}
@@ -43,27 +42,27 @@ use Rattle.requests.proofs.Reaching.{further-one, further-none, reach-f
 use Rattle.requests.proofs.Copied.{front-is, front-told}
 use Rattle.requests.proofs.Fronts.{front-length, front-then}
 use Rattle.requests.proofs.Running.{Moves, moves, Says, says, bytes-one, bytes-more, records-by, none-left, some-left, take-more}
-use Rattle.requests.proofs.Running.{drop-more, state-more, text-more, kept-valid, never-got, part-bytes}
+use Rattle.requests.proofs.Running.{drop-more, books-more, text-more, kept-right, never-got, part-bytes}
 
 -- ---- how far a run came
 
-pub record Running (p : Profile) (R : ℕ) (input : List ℕ) (ended : Bool) (i : ℕ) (before now out done : List ℕ)
+pub record Running (p : Profile) (R : ℕ) (input : List ℕ) (ended : Bool) (i : ℕ) (s₀ j₀ s j out done : List ℕ)
     (taken count written lines : ℕ) : Type 0 where
-  pub store : Store p R now
-  pub state : parse p R now ≡ stateThen p R input ended before count
-  pub kept : length now ≡ length before
+  pub booked : Booked p R s j
+  pub books : booksOf p R s j ≡ booksThen p R input ended (booksOf p R s₀ j₀) count
+  pub kept : (length s ≡ length s₀) × (length j ≡ length j₀)
   pub inside : taken ≤ length input
   pub few : count ≤ taken
   pub rest : recordsIn p (drop taken input) ended ≡ recordsLeft p input ended count
   pub fits : written ≤ length done
   pub long : length done ≡ length out
   pub front : Front (take written done) out done written
-  pub text : textOf p R (parse p R before) (recordsIn p input ended) i
-      ≡ take written done ++ textOf p R (stateThen p R input ended before count) (recordsLeft p input ended count) lines
+  pub text : textOf p R (booksOf p R s₀ j₀) (recordsIn p input ended) i
+      ≡ take written done ++ textOf p R (booksThen p R input ended (booksOf p R s₀ j₀) count) (recordsLeft p input ended count) lines
   pub next : recordsLeft p input ended count ≡ [] → lines ≡ cond (eqb count 0) i 0
-  pub reached : reach p R ended (parse p R before) (recordsIn p input ended) i (length out)
+  pub reached : reach p R ended (booksOf p R s₀ j₀) (recordsIn p input ended) i (length out)
       ≡ further count
-      (reach p R ended (stateThen p R input ended before count) (recordsLeft p input ended count) lines (length out - written))
+      (reach p R ended (booksThen p R input ended (booksOf p R s₀ j₀) count) (recordsLeft p input ended count) lines (length out - written))
 
 -- what is passed of the input
 pub record Passed (p : Profile) (input : List ℕ) (ended : Bool) (taken skip count : ℕ) : Type 0 where
@@ -75,14 +74,14 @@ pub pass-start : (p : Profile) (input : List ℕ) (ended : Bool) → Passed p in
 unfolding bytesOf
 pass-start p input ended = record { few = omega arith; passed = omega arith; over = omega arith }
 
-pub run-start : (p : Profile) (R : ℕ) (input : List ℕ) (ended : Bool) (i : ℕ) (before out : List ℕ) → Store p R before
-    → Running p R input ended i before before out out 0 0 0 i
-unfolding stateOf
-run-start p R input ended i before out b =
+pub run-start : (p : Profile) (R : ℕ) (input : List ℕ) (ended : Bool) (i : ℕ) (s j out : List ℕ) → Booked p R s j
+    → Running p R input ended i s j s j out out 0 0 0 i
+unfolding booksAfter
+run-start p R input ended i s j out b =
     record {
-      store = b;
-      state = refl;
-      kept = refl;
+      booked = b;
+      books = refl;
+      kept = (refl, refl);
       inside = omega arith;
       few = omega arith;
       rest = refl;
@@ -92,29 +91,32 @@ run-start p R input ended i before out b =
       text = refl;
       next = λ e. refl;
       reached =
-          ap (reach p R ended (parse p R before) (recordsIn p input ended) i) (sym (sub-zero (length out)))
-          ∙ sym (further-none (reach p R ended (parse p R before) (recordsIn p input ended) i (length out - 0)));
+          ap (reach p R ended (booksOf p R s j) (recordsIn p input ended) i) (sym (sub-zero (length out)))
+          ∙ sym (further-none (reach p R ended (booksOf p R s j) (recordsIn p input ended) i (length out - 0)));
     }
 
--- ---- the next record answered: it says q, those behind it begin at `to`; the store is now', the output behind what was written is `last`
+-- ---- the next record answered: it says q, those behind it begin at `to`; the buffers are s₁ and j₁, the output behind what was written is `last`
 
-pub record Turn (p : Profile) (R : ℕ) (input : List ℕ) (ended : Bool) (now now' done last : List ℕ) (count written lines to : ℕ)
+pub record Turn (p : Profile) (R : ℕ) (input : List ℕ) (ended : Bool) (s j s₁ j₁ done last : List ℕ) (count written lines to : ℕ)
     (put : Put) : Type 0 where
   pub q : Read Request
   pub fine : (x : Request) (end : ℕ) → q ≡ got x end → readable p x ≡ true
   pub head : recordsLeft p input ended count ≡ q ∷ recordsIn p (drop to input) ended
-  pub answered : Answered p R q lines now now' (take (length done - written) (drop written done)) last put
-  pub kept : length now' ≡ length now
+  pub answered : Answered p R q lines s j s₁ j₁ (take (length done - written) (drop written done)) last put
+  pub kept : (length s₁ ≡ length s) × (length j₁ ≡ length j)
 
 -- ---- from where a run came to
 
-module _ {p : Profile} {R : ℕ} {input : List ℕ} {ended : Bool} {i : ℕ} {before now out done : List ℕ} {taken count written lines : ℕ}
-    (g : Running p R input ended i before now out done taken count written lines) where
+module _ {p : Profile} {R : ℕ} {input : List ℕ} {ended : Bool} {i : ℕ} {s₀ j₀ s j out done : List ℕ} {taken count written lines : ℕ}
+    (g : Running p R input ended i s₀ j₀ s j out done taken count written lines) where
   abbrev left : List (Read Request)
   left = recordsLeft p input ended count
 
-  abbrev then : State
-  then = stateThen p R input ended before count
+  abbrev start : Books
+  start = booksOf p R s₀ j₀
+
+  abbrev then : Books
+  then = booksThen p R input ended start count
 
   abbrev room : ℕ
   room = length out - written
@@ -130,7 +132,7 @@ module _ {p : Profile} {R : ℕ} {input : List ℕ} {ended : Bool} {i : ℕ} {be
   module _ {skip : ℕ} (t : Passed p input ended taken skip count) where
     abbrev Ends : Halt → Type 0
     Ends h =
-        Runs p R input ended i before now out done
+        Runs p R input ended i s₀ j₀ s j out done
         (record { halt = h; taken = taken; skip = skip; count = count; written = written; lines = lines })
 
     ran : (h : Halt) → Why h → reach p R ended then left lines room ≡ halted lines h → Ends h
@@ -142,14 +144,14 @@ module _ {p : Profile} {R : ℕ} {input : List ℕ} {ended : Bool} {i : ℕ} {be
           passed = t .passed;
           over = t .over;
           rest = g .rest;
-          bytes = g .store .bytes ∙ ap (image p R) (g .state);
+          bytes = subst (λ (b : Books). BytesOf p R b s j) (g .books) (booked-bytes (g .booked));
           text = g .text;
           next = g .next;
           fits = omega (arith, g .fits, g .long);
           long = g .long;
           front = g .front .bytes;
-          kept = g .store;
-          state = g .state;
+          kept = g .booked;
+          books = g .books;
           full = λ x. subst Why x w;
           waits = λ x. subst Why x w;
           stops = λ x. subst Why x w;
@@ -180,14 +182,14 @@ module _ {p : Profile} {R : ℕ} {input : List ℕ} {ended : Bool} {i : ℕ} {be
   module _ (a : Answer) (ea : said a ≡ no RecordBroken 0) {last : List ℕ} {put : Put} (w : Only (said a) part last put)
       (same : length last ≡ length part) where
     broken-turn : {to : ℕ} → left ≡ broken 0 ∷ recordsIn p (drop to input) ended
-        → Turn p R input ended now now done last count written lines to put
+        → Turn p R input ended s j s j done last count written lines to put
     broken-turn head =
         record {
           q = broken 0;
           fine = never-got p;
           head = head;
-          answered = broken-answered p R now (broken 0) lines part last put (g .store) (broken-outcome p R (parse p R now) 0) a ea w same;
-          kept = refl;
+          answered = broken-answered p R s j (broken 0) lines part last put (g .booked) (broken-outcome p R (booksOf p R s j) 0) a ea w same;
+          kept = (refl, refl);
         }
 
   -- ---- the next frame
@@ -248,7 +250,7 @@ module _ {p : Profile} {R : ℕ} {input : List ℕ} {ended : Bool} {i : ℕ} {be
 
       pub cut-turn : (a : Answer) → said a ≡ no RecordBroken 0 → {last : List ℕ} {put : Put} → Only (said a) part last put
           → length last ≡ length part
-          → Turn p R input ended now now done last count written lines (length input) put
+          → Turn p R input ended s j s j done last count written lines (length input) put
       cut-turn a ea w same = broken-turn a ea w same cut-left
 
       pub pass-cut : {skip : ℕ} → Passed p input ended taken skip count → Passed p input ended (length input) skip (count + 1)
@@ -280,12 +282,12 @@ module _ {p : Profile} {R : ℕ} {input : List ℕ} {ended : Bool} {i : ℕ} {be
           let x = bytes-then skip t (omega (arith, m .0, m .1)) (Whole n) h in
           passes _ _ whole-left (taken + n) skip (omega (arith, x, m .0, m .1)) (omega (arith, x, m .0, m .1, t .passed, t .over))
 
-      pub whole-turn : Bytes input → {now' last : List ℕ} {put : Put}
-          → Answered p R (requestOf its p) lines now now' part last put → length now' ≡ length now
-          → Turn p R input ended now now' done last count written lines (taken + n) put
-      whole-turn b w k =
+      pub whole-turn : Bytes input → {s₁ j₁ last : List ℕ} {put : Put}
+          → Answered p R (requestOf its p) lines s j s₁ j₁ part last put → length s₁ ≡ length s → length j₁ ≡ length j
+          → Turn p R input ended s j s₁ j₁ done last count written lines (taken + n) put
+      whole-turn b w k l =
           let z = part-bytes (taken + n - (taken + 2)) (taken + 2) input b in
-          record { q = requestOf its p; fine = read-readable its z p; head = whole-left; answered = w; kept = k }
+          record { q = requestOf its p; fine = read-readable its z p; head = whole-left; answered = w; kept = (k, l) }
 
     -- of bad length
     module _ {n : ℕ} (h : f ≡ Skip n) where
@@ -302,10 +304,10 @@ module _ {p : Profile} {R : ℕ} {input : List ℕ} {ended : Bool} {i : ℕ} {be
 
       module _ (a : Answer) (ea : said a ≡ no RecordBroken 0) {last : List ℕ} {put : Put} (w : Only (said a) part last put)
           (same : length last ≡ length part) where
-        pub skip-turn : Turn p R input ended now now done last count written lines (taken + n) put
+        pub skip-turn : Turn p R input ended s j s j done last count written lines (taken + n) put
         skip-turn = broken-turn a ea w same skip-left
 
-        pub past-turn : length input - taken < n → Turn p R input ended now now done last count written lines (length input) put
+        pub past-turn : length input - taken < n → Turn p R input ended s j s j done last count written lines (length input) put
         past-turn l = broken-turn a ea w same (skip-past l)
 
       module _ {skip : ℕ} (t : Passed p input ended taken skip count) where
@@ -325,7 +327,7 @@ module _ {p : Profile} {R : ℕ} {input : List ℕ} {ended : Bool} {i : ℕ} {be
 
   -- ---- a record answered
 
-  module _ {now' last : List ℕ} {to : ℕ} {put : Put} (t : Turn p R input ended now now' done last count written lines to put) where
+  module _ {s₁ j₁ last : List ℕ} {to : ℕ} {put : Put} (t : Turn p R input ended s j s₁ j₁ done last count written lines to put) where
     abbrev wide : ℕ
     wide = put .written
 
@@ -338,8 +340,12 @@ module _ {p : Profile} {R : ℕ} {input : List ℕ} {ended : Bool} {i : ℕ} {be
     abbrev behind : List (Read Request)
     behind = recordsIn p (drop to input) ended
 
-    own : outcomeOf p R (parse p R now) (t .q) ≡ o
-    own = ap (λ (st : State). outcomeOf p R st (t .q)) (g .state)
+    -- of the buffers as they are
+    abbrev o₁ : Outcome
+    o₁ = outcomeOf p R (booksOf p R s j) (t .q)
+
+    own : o₁ ≡ o
+    own = ap (λ (b : Books). outcomeOf p R b (t .q)) (g .books)
 
     wrote : Wrote o lines part last put
     wrote = subst (λ (x : Outcome). Wrote x lines part last put) own (t .answered .wrote)
@@ -368,27 +374,26 @@ module _ {p : Profile} {R : ℕ} {input : List ℕ} {ended : Bool} {i : ℕ} {be
     is-next : take (written + wide) next ≡ take written done ++ take wide last
     is-next = front-is (take written done ++ take wide last) out next (written + wide) front-next
 
-    bytes-next : now' ≡ image p R (applyAll (o .changes) then)
-    bytes-next =
-        t .answered .bytes
-        ∙ ap (λ (x : Outcome). image p R (applyAll (x .changes) (parse p R now))) own
-        ∙ ap (λ (st : State). image p R (applyAll (o .changes) st)) (g .state)
+    right-next : Right p R (changed (o₁ .changes) (booksOf p R s j))
+    right-next = kept-right p R (booksOf p R s j) (t .q) (t .fine) (right-of (g .booked))
 
-    valid-next : Valid p R (applyAll (o .changes) then)
-    valid-next = kept-valid p R then (t .q) (t .fine) (subst (Valid p R) (g .state) (store-valid p R now (g .store)))
+    booked-next : Booked p R s₁ j₁
+    booked-next = next-booked (g .booked) (o₁ .changes) right-next (t .answered .bytes)
 
-    store-next : Store p R now'
-    store-next = store-again p R now (g .store) (applyAll (o .changes) then) valid-next now' bytes-next
+    are-next : booksOf p R s₁ j₁ ≡ changed (o .changes) then
+    are-next =
+        next-are (g .booked) (o₁ .changes) right-next (t .answered .bytes)
+        ∙ ap (λ (b : Books). changed ((outcomeOf p R b (t .q)) .changes) b) (g .books)
 
-    reads-next : parse p R now' ≡ applyAll (o .changes) then
-    reads-next = reads-back p R now (g .store) (applyAll (o .changes) then) valid-next now' bytes-next
+    kept-next : (length s₁ ≡ length s₀) × (length j₁ ≡ length j₀)
+    kept-next = (t .kept .0 ∙ g .kept .0, t .kept .1 ∙ g .kept .1)
 
     -- the text, `rest` being what is left of the record's own
     text-told : (rest : List ℕ) → cond (put .done) [] (textFrom o (put .lines)) ≡ rest
-        → textOf p R (parse p R before) (recordsIn p input ended) i
-        ≡ take (written + wide) next ++ (rest ++ textOf p R (applyAll (o .changes) then) behind 0)
+        → textOf p R start (recordsIn p input ended) i
+        ≡ take (written + wide) next ++ (rest ++ textOf p R (changed (o .changes) then) behind 0)
     text-told rest d =
-        let others : List ℕ = textOf p R (applyAll (o .changes) then) behind 0 in
+        let others : List ℕ = textOf p R (changed (o .changes) then) behind 0 in
         g .text
         ∙ ap (λ (l : List (Read Request)). take written done ++ textOf p R then l lines) (t .head)
         ∙ ap (λ (x : List ℕ). take written done ++ x) (text-more p R then (t .q) behind lines)
@@ -401,7 +406,7 @@ module _ {p : Profile} {R : ℕ} {input : List ℕ} {ended : Bool} {i : ℕ} {be
       in-room : rowMost ≤ room
       in-room = omega (arith, g .long)
 
-      head-reached : reach p R ended (parse p R before) (recordsIn p input ended) i (length out)
+      head-reached : reach p R ended start (recordsIn p input ended) i (length out)
           ≡ further count (reach p R ended then (t .q ∷ behind) lines room)
       head-reached = g .reached ∙ ap (λ (l : List (Read Request)). further count (reach p R ended then l lines room)) (t .head)
 
@@ -414,37 +419,37 @@ module _ {p : Profile} {R : ℕ} {input : List ℕ} {ended : Bool} {i : ℕ} {be
             ∙ ap length (append-nil (take wide last))
             ∙ length-take-le wide last wide-fits
 
-        state-next : stateThen p R input ended before (count + 1) ≡ applyAll (o .changes) then
-        state-next =
-            ap (stateOf p R (parse p R before)) (take-more count (recordsIn p input ended) behind (t .q) (t .head))
-            ∙ state-more p R (parse p R before) (take count (recordsIn p input ended)) (t .q)
+        books-next : booksThen p R input ended start (count + 1) ≡ changed (o .changes) then
+        books-next =
+            ap (booksAfter p R start) (take-more count (recordsIn p input ended) behind (t .q) (t .head))
+            ∙ books-more p R start (take count (recordsIn p input ended)) (t .q)
 
         left-next : recordsLeft p input ended (count + 1) ≡ behind
         left-next = drop-more count (recordsIn p input ended) behind (t .q) (t .head)
 
         -- the two at once
-        as-next : {A : Type 0} (f : State → List (Read Request) → A)
-            → f (applyAll (o .changes) then) behind
-            ≡ f (stateThen p R input ended before (count + 1)) (recordsLeft p input ended (count + 1))
+        as-next : {A : Type 0} (f : Books → List (Read Request) → A)
+            → f (changed (o .changes) then) behind
+            ≡ f (booksThen p R input ended start (count + 1)) (recordsLeft p input ended (count + 1))
         as-next f =
-            ap (λ (st : State). f st behind) (sym state-next) ∙ ap (f (stateThen p R input ended before (count + 1))) (sym left-next)
+            ap (λ (b : Books). f b behind) (sym books-next) ∙ ap (f (booksThen p R input ended start (count + 1))) (sym left-next)
 
-        reached-next : reach p R ended (parse p R before) (recordsIn p input ended) i (length out)
-            ≡ further (count + 1) (reach p R ended (applyAll (o .changes) then) behind 0 (length out - (written + wide)))
+        reached-next : reach p R ended start (recordsIn p input ended) i (length out)
+            ≡ further (count + 1) (reach p R ended (changed (o .changes) then) behind 0 (length out - (written + wide)))
         reached-next =
             let k : room - length (textFrom o lines) ≡ length out - (written + wide) = omega (arith, all-written) in
             let h : length (textFrom o lines) ≤ room = omega (arith, all-written, wide-in, g .long) in
             head-reached
             ∙ ap (further count) (reach-on p R ended then lines room in-room (t .q) behind h)
-            ∙ further-one count (reach p R ended (applyAll (o .changes) then) behind 0 (room - length (textFrom o lines)))
-            ∙ ap (λ (n : ℕ). further (count + 1) (reach p R ended (applyAll (o .changes) then) behind 0 n)) k
+            ∙ further-one count (reach p R ended (changed (o .changes) then) behind 0 (room - length (textFrom o lines)))
+            ∙ ap (λ (n : ℕ). further (count + 1) (reach p R ended (changed (o .changes) then) behind 0 n)) k
 
-        pub run-on : taken < to → to ≤ length input → Running p R input ended i before now' out next to (count + 1) (written + wide) 0
+        pub run-on : taken < to → to ≤ length input → Running p R input ended i s₀ j₀ s₁ j₁ out next to (count + 1) (written + wide) 0
         run-on l k =
             record {
-              store = store-next;
-              state = reads-next ∙ sym state-next;
-              kept = t .kept ∙ g .kept;
+              booked = booked-next;
+              books = are-next ∙ sym books-next;
+              kept = kept-next;
               inside = k;
               few = omega (arith, g .few);
               rest = sym left-next;
@@ -453,9 +458,9 @@ module _ {p : Profile} {R : ℕ} {input : List ℕ} {ended : Bool} {i : ℕ} {be
               front = front-told (take written done ++ take wide last) out next (written + wide) front-next;
               text =
                   text-told [] (ap (λ (b : Bool). cond b [] (textFrom o (put .lines))) d)
-                  ∙ as-next (λ st qs. take (written + wide) next ++ textOf p R st qs 0);
+                  ∙ as-next (λ b qs. take (written + wide) next ++ textOf p R b qs 0);
               next = λ e. sym (ap (λ (b : Bool). cond b i 0) (ne-eqb (count + 1) 0 (omega arith)));
-              reached = reached-next ∙ as-next (λ st qs. further (count + 1) (reach p R ended st qs 0 (length out - (written + wide))));
+              reached = reached-next ∙ as-next (λ b qs. further (count + 1) (reach p R ended b qs 0 (length out - (written + wide))));
             }
 
       -- not all of them: it was a read, and the store is as it was
@@ -471,14 +476,14 @@ module _ {p : Profile} {R : ℕ} {input : List ℕ} {ended : Bool} {i : ℕ} {be
         pub stays-full : length next - (written + wide) < rowMost
         stays-full = omega (arith, wrote .room d, long-next, g .long, part-long)
 
-        pub run-stays : Running p R input ended i before now' out next taken count (written + wide) (put .lines)
-        unfolding applyAll
+        pub run-stays : Running p R input ended i s₀ j₀ s₁ j₁ out next taken count (written + wide) (put .lines)
+        unfolding applyAll noteAll
         run-stays =
             let c : o .changes ≡ [] = ap (λ (x : Outcome). x .changes) (sym own) ∙ t .answered .again d in
             record {
-              store = store-next;
-              state = reads-next ∙ ap (λ (cs : List Change). applyAll cs then) c;
-              kept = t .kept ∙ g .kept;
+              booked = booked-next;
+              books = are-next ∙ ap (λ (cs : List Change). changed cs then) c;
+              kept = kept-next;
               inside = g .inside;
               few = g .few;
               rest = g .rest;

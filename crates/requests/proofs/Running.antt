@@ -1,4 +1,4 @@
--- The records of an input one after the other: each takes some bytes, and one more changes the state and the text. Assumes nothing.
+-- The records of an input one after the other: each takes some bytes, and one more changes the books and the text. Assumes nothing.
 use Prim.Native.Nat.{ℕ, zero, suc, _+_, _-_, _≤_}
 use native.Mathlib.Omega.{arith}
 use mathlib.Core.Path.{_≡_, refl, sym, ap, _∙_}
@@ -12,20 +12,19 @@ use Rattle.values.specs.Bytes.{Bytes}
 use Rattle.forms.specs.Read.{Read, got, broken}
 use Rattle.values.proofs.Packing.{take-bytes, drop-bytes}
 use Rattle.rules.specs.declared.profile.Profile.{Profile}
-use Rattle.rules.specs.State.{State}
+use Rattle.rules.specs.Journal.{Books}
 use Rattle.rules.specs.Request.{Request}
 use Rattle.rules.specs.Readable.{readable}
-use Rattle.rules.specs.Step.{applyAll, after}
-use Rattle.rules.proofs.Kept.{step-valid}
+use Rattle.rules.specs.Step.{applyAll, noteAll, changed, after}
+use Rattle.rules.proofs.Backed.{Right, step-right}
 use Rattle.rules.proofs.Tests.{by-cond}
-use Rattle.rules.proofs.Valid.{Valid}
 use Rattle.records.specs.declared.frame.Framed.{Framed}
 use Rattle.records.specs.declared.frame.Framed.the-variants.{Whole, Skip, More, Cut, Done}
 use Rattle.records.specs.Record.{requestOf}
 use Rattle.records.specs.Frame.{framed, lengthOf, leastLength, mostLength, short}
 use Rattle.operations.specs.Told.{outcomeOf}
 use Rattle.requests.specs.Places.{textFrom}
-use Rattle.requests.specs.Stream.{inFrame, someRecords, recordsIn, inBytes, bytesOf, textOf, stateOf}
+use Rattle.requests.specs.Stream.{inFrame, someRecords, recordsIn, inBytes, bytesOf, textOf, booksAfter}
 
 -- ---- a frame moves on, and stays inside where it is whole
 
@@ -170,23 +169,23 @@ module _ {A : Type 0} (n : ℕ) (xs rest : List A) (x : A) (e : drop n xs ≡ x 
   pub drop-more : drop (n + 1) xs ≡ rest
   drop-more = sym (drop-drop 1 n xs) ∙ ap (drop 1) e
 
-pub state-more : (p : Profile) (R : ℕ) (st : State) (qs : List (Read Request)) (q : Read Request)
-    → stateOf p R st (qs ++ (q ∷ [])) ≡ applyAll ((outcomeOf p R (stateOf p R st qs) q) .changes) (stateOf p R st qs)
-unfolding stateOf
-state-more p R st [] q = refl
-state-more p R st (x ∷ qs) q = state-more p R (applyAll ((outcomeOf p R st x) .changes) st) qs q
+pub books-more : (p : Profile) (R : ℕ) (b : Books) (qs : List (Read Request)) (q : Read Request)
+    → booksAfter p R b (qs ++ (q ∷ [])) ≡ changed ((outcomeOf p R (booksAfter p R b qs) q) .changes) (booksAfter p R b qs)
+unfolding booksAfter
+books-more p R b [] q = refl
+books-more p R b (x ∷ qs) q = books-more p R (changed ((outcomeOf p R b x) .changes) b) qs q
 
-pub text-more : (p : Profile) (R : ℕ) (st : State) (q : Read Request) (qs : List (Read Request)) (i : ℕ)
-    → textOf p R st (q ∷ qs) i ≡ textFrom (outcomeOf p R st q) i ++ textOf p R (applyAll ((outcomeOf p R st q) .changes) st) qs 0
+pub text-more : (p : Profile) (R : ℕ) (b : Books) (q : Read Request) (qs : List (Read Request)) (i : ℕ)
+    → textOf p R b (q ∷ qs) i ≡ textFrom (outcomeOf p R b q) i ++ textOf p R (changed ((outcomeOf p R b q) .changes) b) qs 0
 unfolding textOf
-text-more p R st q qs i = refl
+text-more p R b q qs i = refl
 
--- a request that was read keeps a valid state valid
-pub kept-valid : (p : Profile) (R : ℕ) (st : State) (r : Read Request) → ((q : Request) (end : ℕ) → r ≡ got q end → readable p q ≡ true) → Valid p R st
-    → Valid p R (applyAll ((outcomeOf p R st r) .changes) st)
-unfolding outcomeOf applyAll after
-kept-valid p R st (got q end) f v = step-valid p R st q (f q end refl) v
-kept-valid p R st (broken x) f v = v
+-- a record that is broken or says a readable request keeps right books right
+pub kept-right : (p : Profile) (R : ℕ) (b : Books) (r : Read Request) → ((q : Request) (end : ℕ) → r ≡ got q end → readable p q ≡ true) → Right p R b
+    → Right p R (changed ((outcomeOf p R b r) .changes) b)
+unfolding outcomeOf applyAll noteAll after
+kept-right p R b (got q end) f v = step-right p R b q (f q end refl) v
+kept-right p R b (broken x) f v = v
 
 -- a broken one says no request
 pub never-got : (p : Profile) (x : Request) (end : ℕ) → _≡_ {A = Read Request} (broken 0) (got x end) → readable p x ≡ true

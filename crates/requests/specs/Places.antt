@@ -7,12 +7,17 @@ use lib.Dec.{leb}
 use lib.ListN.{length, take, drop}
 use Rattle.values.specs.Basic.{keep}
 use Rattle.values.specs.Value.{Value, text, before}
+use Rattle.forms.specs.Read.{Read}
 use Rattle.forms.specs.Print.{Front}
 use Rattle.values.specs.Meaning.{held, ProperCell}
+use Rattle.rules.specs.declared.profile.Profile.{Profile}
+use Rattle.rules.specs.declared.answer.Answer.{Answer}
 use Rattle.rules.specs.State.{Table, Row, State, rowsOf}
-use Rattle.rules.specs.Request.{Request, Create, Drop, Insert, Update, Delete, Get, Lookup, Scan, Names}
+use Rattle.rules.specs.Journal.{Journal, Books}
+use Rattle.rules.specs.Request.{Request, Create, Drop, Insert, Update, Delete, Get, Lookup, Scan, Names, Open, Keep, Back, said}
 use Rattle.rules.specs.Step.{Outcome, found, lookup, isAccepted}
 use Rattle.walks.specs.Looked.{keysWith}
+use Rattle.operations.specs.Told.{outcomeOf}
 use Rattle.requests.specs.declared.lines.Step.{Step}
 use Rattle.requests.specs.declared.lines.Put.{Put}
 use Rattle.requests.specs.Lines.{rowLine, rowLines, rowMost, answerLine}
@@ -39,6 +44,9 @@ linesFrom s (Drop n b) i k = []
 linesFrom s (Insert n m rows) i k = []
 linesFrom s (Update n qs) i k = []
 linesFrom s (Delete n ks) i k = []
+linesFrom s Open i k = []
+linesFrom s Keep i k = []
+linesFrom s Back i k = []
 
 -- one line written at the front of a buffer, or none because none is left
 pub data NextLine (ls rest : List (List Value)) (before after : List ℕ) (count : ℕ) : Type 0 where
@@ -75,3 +83,14 @@ pub record Wrote (o : Outcome) (i : ℕ) (before after : List ℕ) (r : Put) : T
   pub text : textFrom o i ≡ take (r .written) after ++ cond (r .done) [] (textFrom o (r .lines))
   pub bytes : after ≡ take (r .written) after ++ drop (r .written) before
   pub room : r .done ≡ false → length before - r .written < rowMost
+
+-- ---- a request that only reads: its answer, and its lines, whatever the journal beside the store
+
+abbrev pub beside : State → Journal → Books
+beside s x = record { store = s; journal = x }
+
+abbrev pub Replies : Profile → ℕ → State → Read Request → Answer → Type 0
+Replies p R s q a = (x : Journal) → said a ≡ (outcomeOf p R (beside s x) q) .reply
+
+abbrev pub Shows : Profile → ℕ → State → Read Request → ℕ → List ℕ → List ℕ → Put → Type 0
+Shows p R s q i before after r = (x : Journal) → Wrote (outcomeOf p R (beside s x) q) i before after r

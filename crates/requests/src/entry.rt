@@ -1,4 +1,4 @@
-// The entries: one record over a lent store, and many records over a store tested once. They take any bytes whatever.
+// The entries: one record over a lent store and its journal, and many records over both tested once. They take any bytes whatever.
 use super::line;
 use super::lines;
 use super::lines::Put;
@@ -13,7 +13,7 @@ use rules::answer::Refusal;
 use rules::profile;
 use rules::profile::Profile;
 use sound::fresh;
-use sound::soundness;
+use sound::journal_test;
 ghost use mathlib.Core.Path.{_≡_};
 ghost use mathlib.Core.Bool.{true};
 ghost use Prim.Native.Nat.{_≤_};
@@ -21,7 +21,7 @@ ghost use lib.ListN.{length};
 ghost use Rattle.forms.specs.Print.{Front};
 ghost use Rattle.rules.specs.Profile.{full};
 ghost use Rattle.rules.specs.Request.{said};
-ghost use Rattle.laid.specs.Store.{Store};
+ghost use Rattle.journal.specs.Books.{Booked};
 ghost use Rattle.records.specs.Record.{requestOf};
 ghost use Rattle.requests.specs.Lines.{rowMost, answerLine};
 ghost use Rattle.requests.specs.Stream.{wholeOf, Lent, Answered, Runs, Many};
@@ -34,7 +34,7 @@ pub enum Halt {
     Waiting,
     // the input is at its end
     Stopped,
-    // the store is not sound
+    // the store or its journal is not sound
     Unsound,
 }
 
@@ -49,11 +49,11 @@ pub struct Ran {
     pub lines: usize,
 }
 
-// One record, its two length bytes included, over a lent store: 38; 1; the request's own answer.
-pub fn one(s: &mut [u8], rec: &[u8]) -> Answer
-    ensures { λ r. ⌜ Lent full (wholeOf full (now (rec .entry))) (now (s .entry)) (now (s .exit)) r ⌝ }
+// One record, its two length bytes included, over a lent store and its journal: 38; 1; the request's own answer.
+pub fn one(s: &mut [u8], j: &mut [u8], rec: &[u8]) -> Answer
+    ensures { λ r. ⌜ Lent full (wholeOf full (now (rec .entry))) (now (s .entry)) (now (j .entry)) (now (s .exit)) (now (j .exit)) r ⌝ }
 {
-    if !soundness::is_sound(s) {
+    if !journal_test::are_sound(s, j) {
         return answer::refused(Refusal::StoreUnsound, 0);
     }
     let places = fresh::places_of(s, profile::FULL);
@@ -62,7 +62,7 @@ pub fn one(s: &mut [u8], rec: &[u8]) -> Answer
             if n != rec.len() {
                 return answer::refused(Refusal::RecordBroken, 0);
             }
-            operate::execute(s, profile::FULL, places, &rec[2..n])
+            operate::execute(s, profile::FULL, places, j, &rec[2..n])
         }
         _ => answer::refused(Refusal::RecordBroken, 0),
     }
@@ -86,40 +86,42 @@ fn answer_record(
     s: &mut [u8],
     p: Profile,
     places: usize,
+    j: &mut [u8],
     rec: &[u8],
     from: usize,
     out: &mut [u8],
 ) -> Put
-    requires { ⌜ Store p places (now s) × (p .columns ≤ 8) × (rowMost ≤ length (now out)) ⌝ }
-    ensures { λ r. ⌜ Answered p places (requestOf (now (rec .entry)) p) from (now (s .entry)) (now (s .exit)) (now (out .entry)) (now (out .exit)) r ⌝ }
+    requires { ⌜ Booked p places (now s) (now j) × (rowMost ≤ length (now out)) ⌝ }
+    ensures { λ r. ⌜ Answered p places (requestOf (now (rec .entry)) p) from (now (s .entry)) (now (j .entry)) (now (s .exit)) (now (j .exit)) (now (out .entry)) (now (out .exit)) r ⌝ }
 {
     match record::walk(rec, p) {
         Walked::Breaks(_) => put_only(out, answer::refused(Refusal::RecordBroken, 0)),
         Walked::Ends(_) => {
             let k = record::byte_of(rec, 1);
-            if 5 < k {
+            if operate::is_read(k) {
                 let a = operate::ask(s, p, places, rec, k);
                 return lines::put_lines(s, p, places, rec, a, from, out);
             }
-            let a = operate::write(s, p, places, rec, k);
+            let a = operate::write(s, p, places, j, rec, k);
             put_only(out, a)
         }
     }
 }
 
-// The records of an input one after the other over a store that is known to be sound and stays so, `from` row lines of the first being written
-// already: for whoever has tested the store and lent it to nobody else since.
+// The records of an input one after the other over a store and a journal that are known to be sound and stay so, `from` row lines of the first being
+// written already: for whoever has tested both and lent them to nobody else since.
 pub fn run(
     s: &mut [u8],
     p: Profile,
     places: usize,
+    j: &mut [u8],
     input: &[u8],
     ended: bool,
     from: usize,
     out: &mut [u8],
 ) -> Ran
-    requires { ⌜ Store p places (now s) × (p .columns ≤ 8) ⌝ }
-    ensures { λ r. ⌜ Runs p places (now (input .entry)) ended from (now (s .entry)) (now (s .exit)) (now (out .entry)) (now (out .exit)) r ⌝ }
+    requires { ⌜ Booked p places (now s) (now j) ⌝ }
+    ensures { λ r. ⌜ Runs p places (now (input .entry)) ended from (now (s .entry)) (now (j .entry)) (now (s .exit)) (now (j .exit)) (now (out .entry)) (now (out .exit)) r ⌝ }
 {
     let mut taken = 0;
     let mut skip = 0;
@@ -131,7 +133,7 @@ pub fn run(
             Framed::Whole(n) => {
                 let a = taken + 2;
                 let e = taken + n;
-                let put = answer_record(s, p, places, &input[a..e], lines, &mut out[written..]);
+                let put = answer_record(s, p, places, j, &input[a..e], lines, &mut out[written..]);
                 written += put.written;
                 lines = put.lines;
                 if !put.done {
@@ -206,12 +208,19 @@ pub fn run(
     }
 }
 
-// Many records over a lent store that is tested once: 38 once, or each record's lines, `from` row lines of the first being written already. `ended`
-// says that the input has no more bytes than these.
-pub fn many(s: &mut [u8], input: &[u8], ended: bool, from: usize, out: &mut [u8]) -> Ran
-    ensures { λ r. ⌜ Many full (now (input .entry)) ended from (now (s .entry)) (now (s .exit)) (now (out .entry)) (now (out .exit)) r ⌝ }
+// Many records over a lent store and its journal, tested once: 38 once, or each record's lines, `from` row lines of the first being written already.
+// `ended` says that the input has no more bytes than these.
+pub fn many(
+    s: &mut [u8],
+    j: &mut [u8],
+    input: &[u8],
+    ended: bool,
+    from: usize,
+    out: &mut [u8],
+) -> Ran
+    ensures { λ r. ⌜ Many full (now (input .entry)) ended from (now (s .entry)) (now (j .entry)) (now (s .exit)) (now (j .exit)) (now (out .entry)) (now (out .exit)) r ⌝ }
 {
-    if !soundness::is_sound(s) {
+    if !journal_test::are_sound(s, j) {
         let mut written = 0;
         if line::ANSWER_MOST <= out.len() {
             written = line::put_answer(out, answer::refused(Refusal::StoreUnsound, 0));
@@ -226,5 +235,5 @@ pub fn many(s: &mut [u8], input: &[u8], ended: bool, from: usize, out: &mut [u8]
         };
     }
     let places = fresh::places_of(s, profile::FULL);
-    run(s, profile::FULL, places, input, ended, from, out)
+    run(s, profile::FULL, places, j, input, ended, from, out)
 }

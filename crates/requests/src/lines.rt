@@ -25,15 +25,14 @@ ghost use Rattle.values.specs.Value.{null};
 ghost use Rattle.forms.specs.Print.{Front};
 ghost use Rattle.values.specs.Meaning.{textBytes, Packed, meaning, Proper, held, ProperCell};
 ghost use Rattle.rules.specs.Layout.{parse};
-ghost use Rattle.rules.specs.Request.{Get, Lookup, Scan, Names, said};
+ghost use Rattle.rules.specs.Request.{Get, Lookup, Scan, Names};
 ghost use Rattle.laid.specs.Store.{LaidStore, Store};
 ghost use Rattle.laid.specs.Row.{rowIn};
 ghost use Rattle.checks.specs.Keys.{valuesFrom};
 ghost use Rattle.mapping.specs.Got.{isGot, gotOr};
 ghost use Rattle.records.specs.Record.{requestOf};
 ghost use Rattle.requests.specs.Lines.{rowLine, rowMost};
-ghost use Rattle.requests.specs.Places.{Lined, Wrote};
-ghost use Rattle.operations.specs.Told.{outcomeOf};
+ghost use Rattle.requests.specs.Places.{Lined, Replies, Shows};
 
 // Where a request's lines go on: of get the number of keys passed, of scan and list a place in the store; of lookup the last key.
 struct Place {
@@ -252,8 +251,8 @@ pub fn put_lines(
     out: &mut [u8],
 ) -> Put
     requires { ⌜ Store p places (now s) × (p .columns ≤ 8) × (isGot (requestOf (now rec) p) ≡ true) ⌝ }
-    requires { ⌜ said a ≡ (outcomeOf p places (parse p places (now s)) (requestOf (now rec) p)) .reply ⌝ }
-    ensures { λ r. ⌜ Wrote (outcomeOf p places (parse p places (now (s .entry))) (requestOf (now (rec .entry)) p)) from (now (out .entry)) (now (out .exit)) r ⌝ }
+    requires { ⌜ Replies p places (parse p places (now s)) (requestOf (now rec) p) a ⌝ }
+    ensures { λ r. ⌜ Shows p places (parse p places (now (s .entry))) (requestOf (now (rec .entry)) p) from (now (out .entry)) (now (out .exit)) r ⌝ }
 {
     let mut line = [0u8; line::ROW_MOST];
     let mut written = 0;

@@ -4,7 +4,7 @@ use native.Mathlib.Omega.{arith}
 use borrow.Author.Needs.{needs}
 use Rattle.values.specs.Meaning.{textBytes, ProperCell}
 use Rattle.forms.specs.Read.{got, nameAt, nameRead, ProperName}
-use Rattle.requests.proofs.NextLines.{none-lined, nameless-never, silent-said, get-inside, lookup-inside, next-named, next-got, next-looked, next-scanned}
+use Rattle.requests.proofs.NextLines.{none-lined, nameless-said, silent-said, get-inside, lookup-inside, next-named, next-got, next-looked, next-scanned}
 use Rattle.requests.proofs.lines.put_next.Statement.{statement}
 use Rattle.requests.proofs.lines.put_next.Tie as tie
 
@@ -44,13 +44,18 @@ none-left-requires c κs = tt
 
 returns-2 : tie.Need-returns-2
 returns-2 c =
+    let w = c .none-left in
     let e = c .before in
     let m = e .before .before in
     let l = m .before in
     let o = l .before .byte-of in
     let b = l .before .before .before .before .before in
     let a = b .args in
-    absurd (nameless-never (a .rec .now) (a .p) (b .pre .4) (o .result) (o .ensures) (l .if1 .left) _ (sym (m .name-at .ensures .is) ∙ ap nameRead (e .enum-told .given .1)))
+    let z = sym (m .name-at .ensures .is) ∙ ap nameRead (e .enum-told .given .1) in
+    none-lined _ _ _ _ _ _ _ (subst ProperCell (sym (w .ensures .2)) (b .pre .2))
+    (nameless-said (a .rec .now) (a .p) (b .pre .4) (o .result) (o .ensures) (l .if1 .left) _ z _ _ _)
+    (w .ensures .0)
+    refl
 
 byte-of-requires-2 : tie.Need-byte-of-requires-2
 byte-of-requires-2 c κs = tt
