@@ -64,24 +64,28 @@ def changed(base, f, count):
 
 
 def journal_cases(list_file):
-    """What a taking back says and leaves, or 38 and both as they were."""
+    """Whether a taking back says and leaves what the list says, or 38 and both as they were."""
+    for store, journal, *wanted in lent_journals(list_file):
+        yield answer_both(store, journal, BACK) == tuple(wanted)
+
+
+def lent_journals(list_file):
+    """For each case: a store and a journal; the lines of a taking back, and both afterwards."""
     with open(list_file, "rb") as f:
         while head := f.read(4):
             store, journal = f.read(struct.unpack(">I", head)[0]), f.read(read_number(f))
             for _ in range(read_number(f)):
-                yield journal_case(f, store, journal)
+                yield lent_journal(f, store, journal)
 
 
-def journal_case(f, store, journal):
+def lent_journal(f, store, journal):
     lent = changed(store, f, read_number(f))
     size = read_number(f)
     beside = changed(journal[:size].ljust(size, b"\0"), f, read_number(f))
     if f.read(1) == b"\0":
-        wanted = ["no 38 0 0"], lent, beside
-    else:
-        said = "ok 0" if beside[0] else "no 45 0 0"
-        wanted = [said], changed(store, f, read_number(f)), bytes(size)
-    return answer_both(lent, beside, BACK) == wanted
+        return lent, beside, ["no 38 0 0"], lent, beside
+    said = "ok 0" if beside[0] else "no 45 0 0"
+    return lent, beside, [said], changed(store, f, read_number(f)), bytes(size)
 
 
 def sound(store):
