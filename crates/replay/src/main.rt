@@ -1,5 +1,6 @@
 // Runs recorded streams and holds lines and final bytes against those that were recorded: `replay LIST..`. A list has, for each case, the number of
-// row places, the records, the lines and the store at the end, each of the last three after its length.
+// journal places, 0 where no batch comes, and that of row places; the records, the lines, the store at the end and, where a batch comes, the
+// journal at the end, each after its length.
 use libc::STDOUT_FILENO;
 use requests::entry;
 use requests::entry::Halt;
@@ -32,11 +33,18 @@ fn part(fd: i32, out: &mut [u8]) -> usize
     n
 }
 
-// Whether the records over a fresh store give the lines and leave the bytes.
-fn agrees(store: &mut [u8], records: &[u8], lines: &[u8], after: &[u8]) -> bool {
+// Whether the records over a fresh store and its journal give the lines and leave the bytes of both.
+fn agrees(
+    store: &mut [u8],
+    journal: &mut [u8],
+    records: &[u8],
+    lines: &[u8],
+    after: &[u8],
+    kept: &[u8],
+) -> bool {
     let mut out = io::large_buffer();
     fresh::fresh(store);
-    let r = entry::many(store, records, true, 0, &mut out);
+    let r = entry::many(store, journal, records, true, 0, &mut out);
     let halt = r.halt;
     match halt {
         Halt::Stopped => {
@@ -44,7 +52,9 @@ fn agrees(store: &mut [u8], records: &[u8], lines: &[u8], after: &[u8]) -> bool 
                 return false;
             }
             let n = r.written;
-            bytes::same_bytes(&out[0..n], lines) && bytes::same_bytes(store, after)
+            bytes::same_bytes(&out[0..n], lines)
+                && bytes::same_bytes(store, after)
+                && bytes::same_bytes(journal, kept)
         }
         _ => false,
     }
@@ -57,23 +67,40 @@ fn room() -> [u8; 64958]
     [0; 64958]
 }
 
-// One case with R row places, 1 to 70.
-fn case(fd: i32, places: usize) -> bool
-    requires { ⌜ places ≤ 70 ⌝ }
+// Room for a journal with 70 places, all zero.
+fn pages() -> [u8; 16383]
+    ensures { λ r. ⌜ 16383 ≡ length r ⌝ }
+{
+    [0; 16383]
+}
+
+// One case with R row places, 1 to 70, and J journal places, at most 70. Without a batch there is one place, and it stays zero.
+fn case(fd: i32, places: usize, count: usize) -> bool
+    requires { ⌜ (places ≤ 70) × (count ≤ 70) ⌝ }
 {
     let mut store = room();
     let mut after = room();
+    let mut journal = pages();
+    let mut kept = pages();
     let mut records = io::large_buffer();
     let mut lines = io::large_buffer();
     let n = part(fd, &mut records);
     let m = part(fd, &mut lines);
     let k = part(fd, &mut after);
     let size = 10428 + 779 * places;
+    let mut l = 237;
+    let mut span = 237;
+    if 0 < count {
+        l = part(fd, &mut kept);
+        span = 3 + 234 * count;
+    }
     agrees(
         &mut store[0..size],
+        &mut journal[0..span],
         &records[0..n],
         &lines[0..m],
         &after[0..k],
+        &kept[0..l],
     )
 }
 
@@ -90,11 +117,13 @@ fn all_cases(fd: i32) -> Tally {
     };
     let mut left: u64 = 1000000;
     while 0 < left {
-        let places = four(fd);
-        if places < 1 || 70 < places {
+        let head = four(fd);
+        let count = head / 65536;
+        let places = head % 65536;
+        if places < 1 || 70 < places || 70 < count {
             return t;
         }
-        if case(fd, places) {
+        if case(fd, places, count) {
             t.agree += 1;
         } else {
             t.differ += 1;

@@ -16,10 +16,10 @@ use Rattle.rules.specs.declared.answer.Refusal.{Refusal}
 use Rattle.rules.specs.declared.answer.Refusal.the-variants.{JournalFull, RowReferenced}
 use Rattle.rules.specs.State.{Name, Table, Row, tableNamed, rowWith, keyOf, rowOf}
 use Rattle.rules.specs.Journal.{Event, Journal, lacks, Books, batchOf, withNotes}
-use Rattle.rules.specs.Request.{Pair, Request, Create, Drop, Insert, Update, Delete, Get, Lookup, Scan, Names, Open, Keep, Back, no, Carried, noCarrying, withGone}
+use Rattle.rules.specs.Request.{Pair, Request, Create, Drop, Insert, Update, Delete, Get, Lookup, Scan, Names, Open, Keep, Back, no, Carried, noCarrying, withGone, entered}
 use Rattle.rules.specs.Schema.{first}
 use Rattle.rules.specs.Rows.{rowFault, rowReferenced, fullRow}
-use Rattle.rules.specs.Step.{Change, added, removed, replaced, withoutRow, applyAll, noted, note, noteAll, changed, Outcome, did, refused, isAccepted, atPlace, inTurn, journalFault, insertRow, removals, delete, sameKey, reinsert, otherKey, pair, insert, update, act}
+use Rattle.rules.specs.Step.{Change, added, removed, replaced, withoutRow, applyAll, noted, note, noteAll, changed, Outcome, did, refused, isAccepted, atPlace, inTurn, journalFault, insertRow, removals, delete, sameKey, reinsert, otherKey, pair, insert, update, act, step}
 use Rattle.rules.proofs.Tests.{by-option, by-cond, none-first}
 use Rattle.rules.proofs.Cells.{row-passes}
 use Rattle.rules.proofs.Turns.{in-turn-nil, in-turn-yes, in-turn-no}
@@ -314,3 +314,21 @@ module _ (p : Profile) (R : ℕ) (b : Books) where
   as-outside Open h = absurd (true≢false (sym h))
   as-outside Keep h = absurd (true≢false (sym h))
   as-outside Back h = absurd (true≢false (sym h))
+
+  rows-entered : (q : Request) → ofRows (entered q) ≡ ofRows q
+  rows-entered (Create t) = refl
+  rows-entered (Drop n x) = refl
+  rows-entered (Insert n m rows) = refl
+  rows-entered (Update n qs) = refl
+  rows-entered (Delete n ks) = refl
+  rows-entered (Get n ks) = refl
+  rows-entered (Lookup n i vs) = refl
+  rows-entered (Scan n) = refl
+  rows-entered Names = refl
+  rows-entered Open = refl
+  rows-entered Keep = refl
+  rows-entered Back = refl
+
+  pub step-outside : (q : Request) → ofRows q ≡ true → lacks (b .journal) (length ((step p R (shut b) q) .changes)) ≡ false → step p R b q ≡ step p R (shut b) q
+  unfolding step
+  step-outside q h l = as-outside (entered q) (rows-entered q ∙ h) l
