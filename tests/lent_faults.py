@@ -107,10 +107,6 @@ def whole_runs(tally):
             lent(tally, "%s.new is %s" % (name, title), good(**{name + ".new": what}), changed=LEFT, **well)
     lent(tally, "STORE_AFTER.new is STORE", {"a.new": STORE, "journal": JOURNAL, "records": SHEET}, ["./a.new", "journal", "records", "a", "kept"],
          changed=renamed(LEFT, "a", "kept"), **well)
-    for title, records, lines, left in [("", SHEET, LINES, LEFT), (", a batch being open", BATCH, BATCH_LINES, BATCH_LEFT)]:
-        for after, kept in [("a", "a.new"), ("a.new", "a")]:
-            lent(tally, "the store goes to %s, the journal to %s%s" % (after, kept, title), good(records=records),
-                 ["store", "journal", "records", after, kept], out=lines, undone=None, changed=renamed(left, after, kept))
     lent(tally, "no records", good(records=b""), out=b"", undone=None, changed={"after": STORE, "kept": JOURNAL})
     lent(tally, "a record cut off", good(records=SHEET + b"\0\x20\1"), out=LINES + b"no 1 0 0\n", undone=None, changed=LEFT)
     scan = text(answer_both(LEFT["after"], LEFT["kept"], SCAN)[0])
@@ -162,9 +158,11 @@ def wrong_names(tally):
     for wrong in ("", "x" * 5000, "./" * 2046 + "x"):
         lent(tally, "a name of %d bytes for the store" % len(wrong), good(), NAMES[:3] + [wrong, "kept"], undone="lent: not done:")
         lent(tally, "a name of %d bytes for the journal" % len(wrong), good(), NAMES[:3] + ["after", wrong], undone="lent: not done:")
-    lent(tally, "one name for both afterwards", good(after=OLD), says=["after: this is to hold the store and the journal too"],
-         **to("after", "after"))
-    lent(tally, "one name for both afterwards, written in two ways", good(), says=["this is to hold"], **to("after", ".//after"))
+    for title, files in [("", good()), (", made already", good(after=OLD))]:
+        lent(tally, "one name for both afterwards" + title, files, says=["after: this is to hold the store"], **to("after", "after"))
+        lent(tally, "one name for both afterwards, written in two ways" + title, files, says=["this is to hold"], **to("after", ".//after"))
+    for after, kept in [("a", "a.new"), ("a.new", "a")]:
+        lent(tally, "the store to %s, the journal to %s" % (after, kept), good(), says=["that of the new file beside"], **to(after, kept))
     if os.getuid() != 0:
         for name in ("after", "kept"):
             with Room() as room:
@@ -261,7 +259,7 @@ def full_disks(tally):
             wrong.append("the next run should answer, wrote %s and said %r" % (shown(said.out), said.err))
         tally.add("lent: killed by SIGXFSZ, and run again", wrong)
     pages = 4096
-    for free in (0, 2 * pages, 4 * pages):  # beside a store that takes four pages, a journal that takes five and records that take one
+    for free in (0, 2 * pages, 4 * pages, 6 * pages):  # beside a store that takes four pages, a journal that takes five and records that take one
         for words in (SAME, NAMES):
             with disk(10 * pages + free) as place:
                 if place is None:

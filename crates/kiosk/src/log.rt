@@ -1,4 +1,5 @@
-// The log of a kiosk: every record that came in, as it came. Carried out again over a fresh store, it gives the store that was left.
+// The log of a kiosk: every record that came in, as it came. Carried out again over a fresh store and journal, it
+// gives those that were left.
 use crate::search;
 use crate::search::Seen;
 use files::path;
@@ -150,9 +151,9 @@ fn tell(name: &[u8], r: Report) {
     io::write_all(STDERR_FILENO, b"\n");
 }
 
-// Carries the records of the log out again over a fresh store, and makes it fit to go on with. What was taken over is said.
-pub fn take_over(s: &mut [u8], log: i32, name: &[u8]) -> bool {
-    let report = serve::replay(s, log);
+// Carries the records of the log out again over a fresh store and journal, and makes it fit to go on with. What was taken over is said.
+pub fn take_over(s: &mut [u8], j: &mut [u8], log: i32, name: &[u8]) -> bool {
+    let report = serve::replay(s, j, log);
     let end = report.end;
     match end {
         End::Whole => {}

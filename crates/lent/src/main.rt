@@ -1,8 +1,10 @@
-// Runs files of records over lent stores: `lent STORE RECORDS AFTER` reads the store and the records, writes the lines to standard output,
-// and the store's bytes afterwards take the place of the third file, whole or not at all. More triples of files may follow.
+// Runs files of records over lent stores and their journals: `lent STORE JOURNAL RECORDS STORE_AFTER JOURNAL_AFTER` reads the first three, writes
+// the lines to standard output, and the bytes of store and journal afterwards take the places of the last two files, whole or not at all. More
+// fives of files may follow.
 //
-// Nothing is on standard error where all went well. Else its last line begins with `lent: not done:` and names AFTER, for a script to test.
-mod keep; // a file replaced whole
+// Nothing is on standard error where all went well. Else its last line begins with `lent: not done:` and names the last two files, for a script
+// to test; where one of them is replaced and the other is not, it says which.
+mod keep; // two files replaced whole
 
 use files::say;
 use keep::Kept;
@@ -17,7 +19,10 @@ fn is_whole(end: End, store: &[u8], records: &[u8]) -> bool {
             return true;
         }
         End::Unsound => {
-            say::complain(store, b"this is no sound store");
+            say::complain(
+                store,
+                b"this is no sound store, or its journal is not sound",
+            );
         }
         End::Unread => {
             os::fail(records);
@@ -29,109 +34,240 @@ fn is_whole(end: End, store: &[u8], records: &[u8]) -> bool {
     false
 }
 
-// The records of an open file over the store, which then takes AFTER's place. Whether it can be kept is tried before anything is answered.
-fn run(s: &mut [u8], from: i32, store: &[u8], records: &[u8], after: &[u8]) -> Kept {
-    let folder = keep::prepare(after, s);
-    if folder < 0 {
+// The records of an open file over store and journal, which then take the places of the last two. Whether both can be kept is tried before anything
+// is answered.
+fn run(
+    s: &mut [u8],
+    j: &mut [u8],
+    from: i32,
+    store: &[u8],
+    records: &[u8],
+    store_after: &[u8],
+    journal_after: &[u8],
+) -> Kept {
+    let folders = keep::prepare(store_after, s, journal_after, j);
+    if folders.store < 0 {
         return Kept::No;
     }
-    let report = serve::serve(s, from, STDOUT_FILENO, serve::NONE);
+    let report = serve::serve(s, j, from, STDOUT_FILENO, serve::NONE);
     let end = report.end;
-    if !is_whole(end, store, records) {
-        libc::close(folder);
-        return Kept::No;
+    let mut kept = Kept::No;
+    if is_whole(end, store, records) {
+        kept = keep::replace(folders, store_after, s, journal_after, j);
     }
-    let kept = keep::replace(after, folder, s);
-    libc::close(folder);
+    keep::close(folders);
     kept
 }
 
-// The records that the second name stands for over a store that is read.
-fn answer(s: &mut [u8], store: &[u8], records: &[u8], after: &[u8]) -> Kept {
+// The records that the third name stands for over a store and a journal that are read.
+fn answer(
+    s: &mut [u8],
+    j: &mut [u8],
+    store: &[u8],
+    records: &[u8],
+    store_after: &[u8],
+    journal_after: &[u8],
+) -> Kept {
     let from = os::open_read(records);
     if from < 0 {
         os::fail(records);
         return Kept::No;
     }
-    let kept = run(s, from, store, records, after);
+    let kept = run(s, j, from, store, records, store_after, journal_after);
     libc::close(from);
     kept
 }
 
-// The bytes of an open file as the store, read into a slice.
-fn take(fd: i32, s: &mut [u8], store: &[u8], records: &[u8], after: &[u8]) -> Kept {
+// The bytes of two open files as store and journal, read into slices.
+fn take(
+    fd: i32,
+    s: &mut [u8],
+    page: i32,
+    j: &mut [u8],
+    store: &[u8],
+    journal: &[u8],
+    records: &[u8],
+    store_after: &[u8],
+    journal_after: &[u8],
+) -> Kept {
     let loaded = files::load(fd, s);
     if loaded.failed {
         os::fail(store);
         return Kept::No;
     }
+    let noted = files::load(page, j);
+    if noted.failed {
+        os::fail(journal);
+        return Kept::No;
+    }
     let n = loaded.count;
-    answer(&mut s[0..n], store, records, after)
+    let m = noted.count;
+    answer(
+        &mut s[0..n],
+        &mut j[0..m],
+        store,
+        records,
+        store_after,
+        journal_after,
+    )
 }
 
-// The same in a room with a byte more than the largest store has, so that a longer file is no store either. Its type says its length: of a
-// new array lent as a slice the prover would count the zeros, for which it lacks the stack.
-fn lend(fd: i32, room: &mut [u8; 3201213], store: &[u8], records: &[u8], after: &[u8]) -> Kept {
-    take(fd, room, store, records, after)
+// The same in rooms with a byte more than the largest store and the largest journal have, so that a longer file is neither. Their types say their
+// lengths: of a new array lent as a slice the prover would count the zeros, for which it lacks the stack.
+fn lend(
+    fd: i32,
+    room: &mut [u8; 3201213],
+    page: i32,
+    pages: &mut [u8; 1916932],
+    store: &[u8],
+    journal: &[u8],
+    records: &[u8],
+    store_after: &[u8],
+    journal_after: &[u8],
+) -> Kept {
+    take(
+        fd,
+        room,
+        page,
+        pages,
+        store,
+        journal,
+        records,
+        store_after,
+        journal_after,
+    )
 }
 
-// One triple of names.
-fn case(store: &[u8], records: &[u8], after: &[u8]) -> Kept {
+// Five names.
+fn case(
+    store: &[u8],
+    journal: &[u8],
+    records: &[u8],
+    store_after: &[u8],
+    journal_after: &[u8],
+) -> Kept {
     let fd = os::open_read(store);
     if fd < 0 {
         os::fail(store);
         return Kept::No;
     }
+    let page = os::open_read(journal);
+    if page < 0 {
+        os::fail(journal);
+        libc::close(fd);
+        return Kept::No;
+    }
     let mut room = [0u8; 3201213];
-    let kept = lend(fd, &mut room, store, records, after);
+    let mut pages = [0u8; 1916932];
+    let kept = lend(
+        fd,
+        &mut room,
+        page,
+        &mut pages,
+        store,
+        journal,
+        records,
+        store_after,
+        journal_after,
+    );
+    libc::close(page);
     libc::close(fd);
     kept
 }
 
-// The triple that three arguments name, and the last line where it was not done.
-fn run_case(i: usize, j: usize, k: usize) {
-    let mut store = io::buffer();
-    let mut records = io::buffer();
-    let mut after = io::buffer();
-    let a = os::arg(i, &mut store);
-    let b = os::arg(j, &mut records);
-    let c = os::arg(k, &mut after);
-    if a == 0 || b == 0 || c == 0 {
-        say::tell_undone(b"lent", b"", b"a name is empty or too long");
-        return;
-    }
-    let kept = case(&store[..a], &records[..b], &after[..c]);
+// The last line where it was not done: what is with the one file, and with the other.
+fn tell(one: &[u8], and: &[u8], other: &[u8], what: &[u8]) {
+    io::write_all(STDERR_FILENO, b"lent: not done: ");
+    io::write_all(STDERR_FILENO, one);
+    io::write_all(STDERR_FILENO, and);
+    io::write_all(STDERR_FILENO, other);
+    io::write_all(STDERR_FILENO, what);
+    io::write_all(STDERR_FILENO, b"\n");
+}
+
+fn tell_kept(kept: Kept, store_after: &[u8], journal_after: &[u8]) {
     match kept {
         Kept::Yes => {}
         Kept::No => {
-            say::tell_undone(b"lent", &after[..c], b" is as it was");
+            tell(store_after, b" and ", journal_after, b" are as they were");
+        }
+        Kept::StoreOnly => {
+            tell(
+                store_after,
+                b" is replaced, but ",
+                journal_after,
+                b" is as it was: they are no longer of one run",
+            );
+        }
+        Kept::JournalOnly => {
+            tell(
+                journal_after,
+                b" is replaced, but ",
+                store_after,
+                b" is as it was: they are no longer of one run",
+            );
         }
         Kept::Unsure => {
-            say::tell_undone(
-                b"lent",
-                &after[..c],
-                b" is replaced, but a power cut could still bring the old one back",
+            tell(
+                store_after,
+                b" and ",
+                journal_after,
+                b" are replaced, but a power cut could still bring an old one back",
             );
         }
     }
 }
 
+// The case that five arguments name.
+fn run_case(h: usize, i: usize, j: usize, k: usize, l: usize) {
+    let mut store = io::buffer();
+    let mut journal = io::buffer();
+    let mut records = io::buffer();
+    let mut store_after = io::buffer();
+    let mut journal_after = io::buffer();
+    let a = os::arg(h, &mut store);
+    let b = os::arg(i, &mut journal);
+    let c = os::arg(j, &mut records);
+    let d = os::arg(k, &mut store_after);
+    let e = os::arg(l, &mut journal_after);
+    if a == 0 || b == 0 || c == 0 || d == 0 || e == 0 {
+        say::tell_undone(b"lent", b"", b"a name is empty or too long");
+        return;
+    }
+    let kept = case(
+        &store[..a],
+        &journal[..b],
+        &records[..c],
+        &store_after[..d],
+        &journal_after[..e],
+    );
+    tell_kept(kept, &store_after[..d], &journal_after[..e]);
+}
+
 fn put_usage(to: i32) {
     io::write_all(
         to,
-        b"usage: lent STORE RECORDS AFTER [STORE RECORDS AFTER ..]\n",
+        b"usage: lent STORE JOURNAL RECORDS STORE_AFTER JOURNAL_AFTER [five more ..]\n",
     );
     io::write_all(
         to,
-        b"Runs the records in RECORDS over the store in STORE, writes their answers to standard output\n",
+        b"Runs the records in RECORDS over the store in STORE and its journal in JOURNAL, writes their answers to\n",
     );
     io::write_all(
         to,
-        b"and the store afterwards to AFTER, which may be STORE. AFTER is replaced whole or stays as it was;\n",
+        b"standard output, and store and journal afterwards to STORE_AFTER and JOURNAL_AFTER, which may be STORE and\n",
     );
     io::write_all(
         to,
-        b"then the last line on standard error begins with 'lent: not done:'.\n",
+        b"JOURNAL. A journal with no batch open is zeros: 3 bytes and 234 for each of 1 to 8192 places.\n",
+    );
+    io::write_all(
+        to,
+        b"Both are replaced whole or stay as they were; then, or where one is replaced without the other, the last\n",
+    );
+    io::write_all(
+        to,
+        b"line on standard error begins with 'lent: not done:'.\n",
     );
 }
 
@@ -142,19 +278,19 @@ fn main() {
         return;
     }
     let count = os::arg_count();
-    if count < 4 || count % 3 != 1 {
+    if count < 6 || count % 5 != 1 {
         put_usage(STDERR_FILENO);
         say::tell_undone(
             b"lent",
             b"",
-            b"the names are not STORE RECORDS AFTER, once or more often",
+            b"the names are not STORE JOURNAL RECORDS STORE_AFTER JOURNAL_AFTER, once or more often",
         );
         return;
     }
-    let last = count - 2;
+    let last = count - 4;
     let mut i = 1;
     while i < last {
-        run_case(i, i + 1, i + 2);
-        i += 3;
+        run_case(i, i + 1, i + 2, i + 3, i + 4);
+        i += 5;
     }
 }

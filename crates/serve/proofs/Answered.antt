@@ -10,10 +10,11 @@ use lib.Seq.{drop-nil}
 use borrow.Author.Tests.{eqb-true, eqb-false}
 use Rattle.rules.specs.declared.profile.Profile.{Profile}
 use Rattle.requests.specs.Stream.{recordsIn, bytesOf}
+use Rattle.serve.specs.Buffers.{Buffers}
 use Rattle.serve.specs.Course.{Standing, start, ahead, Came}
 use Rattle.serve.proofs.Pieces.{no-records, same-bytes, more-records, records-behind}
 
-module _ (p : Profile) (R : ℕ) (s : List ℕ) where
+module _ (p : Profile) (R : ℕ) (s : Buffers) where
   -- a replay that left no whole record at hand carried out all that its log holds
   module _ (log : List ℕ) (y : Standing) (v : List ℕ) (c : Came p R false (start s) log y v) (passing : (y .skip ≡ 0 → ⊥) → y .hand ≡ [])
       (none : recordsIn p (y .hand) false ≡ []) where

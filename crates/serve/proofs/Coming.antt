@@ -8,44 +8,53 @@ use lib.ListN.{length, take, drop, length-drop}
 use lib.Seq.{drop-drop, take-add, take-all}
 use Rattle.forms.specs.Read.{Read}
 use Rattle.rules.specs.declared.profile.Profile.{Profile}
-use Rattle.rules.specs.State.{State}
-use Rattle.rules.specs.Layout.{image, parse}
+use Rattle.rules.specs.Journal.{Books}
 use Rattle.rules.specs.Request.{Request}
-use Rattle.laid.specs.Store.{Store}
-use Rattle.requests.specs.Stream.{recordsIn, bytesOf, textOf, stateOf}
+use Rattle.journal.specs.Books.{BytesOf}
+use Rattle.requests.specs.Stream.{recordsIn, bytesOf, textOf, booksAfter}
 use Rattle.serve.specs.declared.flow.Flow.{Flow}
 use Rattle.serve.specs.declared.Taken.{Taken}
+use Rattle.serve.specs.Buffers.{Buffers, booksIn, bytesFor, BookedIn}
 use Rattle.serve.specs.Flow.{hand}
 use Rattle.serve.specs.Course.{standing, TakenIn, Standing, ahead, left, textLeft, Came}
+use Rattle.journal.proofs.Booking.{booked-bytes}
 use Rattle.serve.proofs.Pieces.{bytes-zero, bytes-add, same-bytes, more-records, records-behind}
-use Rattle.serve.proofs.Texts.{state-then}
+use Rattle.serve.proofs.Texts.{books-then}
+
+-- both hold these books, to the byte
+pub bytes-are : {p : Profile} {R : ℕ} {b : Books} {x : Buffers} → BytesOf p R b (x .store) (x .journal) → x ≡ bytesFor p R b
+bytes-are y = rw (← y .store, ← y .journal)
+
+-- every byte of both is that of what stands in them
+pub booked-is : {p : Profile} {R : ℕ} {x : Buffers} → BookedIn p R x → x ≡ bytesFor p R (booksIn p R x)
+booked-is b = bytes-are (booked-bytes b)
 
 module _ (p : Profile) (R : ℕ) where
-  no-state : (st : State) (ws : List (Read Request)) → stateOf p R st (take 0 ws) ≡ st
-  unfolding stateOf
-  no-state st ws = refl
+  no-books : (bs : Books) (ws : List (Read Request)) → booksAfter p R bs (take 0 ws) ≡ bs
+  unfolding booksAfter
+  no-books bs ws = refl
 
   behind-none : (s : List ℕ) → s ≡ drop (bytesOf 0 s true) s
   behind-none s = sym (ap (λ (k : ℕ). drop k s) (bytes-zero s true))
 
-  pub came-nowhere : (ended : Bool) (x : Standing) → Store p R (x .store) → Came p R ended x [] x []
+  pub came-nowhere : (ended : Bool) (x : Standing) → BookedIn p R (x .buffers) → Came p R ended x [] x []
   came-nowhere ended x s =
       record {
-        store = s;
+        booked = s;
         count = 0;
         held = omega arith;
         few = λ more e. omega arith;
         others = λ more e. refl;
         place = λ more e. behind-none (ahead x more);
-        state = λ more e. sym (no-state (parse p R (x .store)) (left p x more));
+        books = λ more e. sym (no-books (booksIn p R (x .buffers)) (left p x more));
         text = λ more e. refl;
       }
 
   -- a piece came in behind the bytes at hand
-  came-read : (x : Standing) (piece : List ℕ) → Store p R (x .store)
-      → Came p R false x piece (record { store = x .store; hand = x .hand ++ piece; skip = x .skip; lines = x .lines }) []
+  came-read : (x : Standing) (piece : List ℕ) → BookedIn p R (x .buffers)
+      → Came p R false x piece (record { buffers = x .buffers; hand = x .hand ++ piece; skip = x .skip; lines = x .lines }) []
   came-read x piece s =
-      let next : Standing = record { store = x .store; hand = x .hand ++ piece; skip = x .skip; lines = x .lines } in
+      let next : Standing = record { buffers = x .buffers; hand = x .hand ++ piece; skip = x .skip; lines = x .lines } in
       let bytes : (more : List ℕ) → ahead next more ≡ ahead x (piece ++ more) =
       λ more. ap (drop (x .skip)) (append-assoc (x .hand) piece more)
       in
@@ -53,22 +62,22 @@ module _ (p : Profile) (R : ℕ) where
       λ more. ap (λ (l : List ℕ). recordsIn p l true) (bytes more)
       in
       record {
-        store = s;
+        booked = s;
         count = 0;
         held = omega arith;
         few = λ more e. omega arith;
         others = λ more e. same more;
         place = λ more e. bytes more ∙ behind-none (ahead x (piece ++ more));
-        state = λ more e. sym (no-state (parse p R (x .store)) (left p x (piece ++ more)));
-        text = λ more e. sym (ap (λ (ws : List (Read Request)). textOf p R (parse p R (x .store)) ws (x .lines)) (same more));
+        books = λ more e. sym (no-books (booksIn p R (x .buffers)) (left p x (piece ++ more)));
+        text = λ more e. sym (ap (λ (ws : List (Read Request)). textOf p R (booksIn p R (x .buffers)) ws (x .lines)) (same more));
       }
 
-  pub came-taken : (f : Flow) (s input mid : List ℕ) (t : Taken) (i : TakenIn f input mid t) → Store p R s
+  pub came-taken : (f : Flow) (s : Buffers) (input mid : List ℕ) (t : Taken) (i : TakenIn f input mid t) → BookedIn p R s
       → Came p R false (standing s f input) (i .piece) (standing s (t .flow) mid) []
   came-taken f s input mid t i b =
       subst (λ (x : Standing). Came p R false (standing s f input) (i .piece) x []) same (came-read (standing s f input) (i .piece) b)
     where
-      same : record { store = s; hand = hand f input ++ i .piece; skip = f .skip; lines = f .lines } ≡ standing s (t .flow) mid
+      same : record { buffers = s; hand = hand f input ++ i .piece; skip = f .skip; lines = f .lines } ≡ standing s (t .flow) mid
       same = rw (i .hand, i .skip, i .lines)
 
   -- one after the other; behind the input's end nothing more is read
@@ -109,18 +118,18 @@ module _ (p : Profile) (R : ℕ) where
           let l : k .count ≤ length all - h .count = rw (← length-drop (h .count) all, ← h .others rest none) (k .few more e) in
           rw whole (omega (arith, l, h .few rest none))
 
-      then-state : parse p R (z .store) ≡ stateOf p R (parse p R (x .store)) (take (h .count + k .count) (left p x ((a ++ b) ++ more)))
-      then-state =
-          k .state more e
-          ∙ ap (λ (st : State). stateOf p R st (take (k .count) (left p y rest))) (h .state rest none)
-          ∙ ap (λ (ws : List (Read Request)). stateOf p R (stateOf p R (parse p R (x .store)) (take (h .count) all)) (take (k .count) ws)) (h .others rest none)
-          ∙ sym (state-then p R (parse p R (x .store)) (take (h .count) all) (take (k .count) (drop (h .count) all)))
-          ∙ ap (stateOf p R (parse p R (x .store))) (sym (take-add (h .count) (k .count) all))
-          ∙ ap (λ (ws : List (Read Request)). stateOf p R (parse p R (x .store)) (take (h .count + k .count) ws)) (sym whole)
+      then-books : booksIn p R (z .buffers) ≡ booksAfter p R (booksIn p R (x .buffers)) (take (h .count + k .count) (left p x ((a ++ b) ++ more)))
+      then-books =
+          k .books more e
+          ∙ ap (λ (bs : Books). booksAfter p R bs (take (k .count) (left p y rest))) (h .books rest none)
+          ∙ ap (λ (ws : List (Read Request)). booksAfter p R (booksAfter p R (booksIn p R (x .buffers)) (take (h .count) all)) (take (k .count) ws)) (h .others rest none)
+          ∙ sym (books-then p R (booksIn p R (x .buffers)) (take (h .count) all) (take (k .count) (drop (h .count) all)))
+          ∙ ap (booksAfter p R (booksIn p R (x .buffers))) (sym (take-add (h .count) (k .count) all))
+          ∙ ap (λ (ws : List (Read Request)). booksAfter p R (booksIn p R (x .buffers)) (take (h .count + k .count) ws)) (sym whole)
 
       then-text : textLeft p R x ((a ++ b) ++ more) ≡ (v ++ w) ++ textLeft p R z more
       then-text =
-          ap (λ (ws : List (Read Request)). textOf p R (parse p R (x .store)) ws (x .lines)) whole
+          ap (λ (ws : List (Read Request)). textOf p R (booksIn p R (x .buffers)) ws (x .lines)) whole
           ∙ h .text rest none
           ∙ ap (λ (l : List ℕ). v ++ l) (k .text more e)
           ∙ sym (append-assoc v w (textLeft p R z more))
@@ -166,13 +175,13 @@ module _ (p : Profile) (R : ℕ) where
     pub came-then : Came p R e₂ x (a ++ b) z (v ++ w)
     came-then =
         record {
-          store = k .store;
+          booked = k .booked;
           count = h .count + k .count;
           held = then-held;
           few = then-few;
           others = then-others;
           place = then-place;
-          state = then-state;
+          books = then-books;
           text = then-text;
         }
 
@@ -185,13 +194,13 @@ module _ (p : Profile) (R : ℕ) where
   came-last x y read wrote c =
       let never : (more : List ℕ) → false ≡ true → more ≡ [] = λ more e. absurd (true≢false (sym e)) in
       record {
-        store = c .store;
+        booked = c .booked;
         count = c .count;
         held = subst (λ (l : List ℕ). c .count ≤ length (left p x l)) (append-nil read) (c .few [] (never []));
         few = λ more e. c .few more (never more);
         others = λ more e. c .others more (never more);
         place = λ more e. c .place more (never more);
-        state = λ more e. c .state more (never more);
+        books = λ more e. c .books more (never more);
         text = λ more e. c .text more (never more);
       }
 
@@ -216,20 +225,20 @@ module _ (p : Profile) (R : ℕ) where
         let l : length (left p x (read ++ [])) - h .count ≡ 0 = sym (length-drop (h .count) (left p x (read ++ []))) ∙ ap length d in
         take-all (h .count) (left p x (read ++ [])) (omega arith) ∙ unextended
 
-    no-text : (st : State) (i : ℕ) → textOf p R st [] i ≡ []
+    no-text : (bs : Books) (i : ℕ) → textOf p R bs [] i ≡ []
     unfolding textOf
-    no-text st i = refl
+    no-text bs i = refl
 
     pub all-text : textLeft p R x read ≡ wrote
     all-text =
-        ap (λ (ws : List (Read Request)). textOf p R (parse p R (x .store)) ws (x .lines)) (sym unextended)
+        ap (λ (ws : List (Read Request)). textOf p R (booksIn p R (x .buffers)) ws (x .lines)) (sym unextended)
         ∙ h .text [] (λ e. refl)
-        ∙ ap (λ (ws : List (Read Request)). wrote ++ textOf p R (parse p R (y .store)) ws (y .lines)) none
-        ∙ ap (λ (l : List ℕ). wrote ++ l) (no-text (parse p R (y .store)) (y .lines))
+        ∙ ap (λ (ws : List (Read Request)). wrote ++ textOf p R (booksIn p R (y .buffers)) ws (y .lines)) none
+        ∙ ap (λ (l : List ℕ). wrote ++ l) (no-text (booksIn p R (y .buffers)) (y .lines))
         ∙ append-nil wrote
 
-    pub all-state : parse p R (y .store) ≡ stateOf p R (parse p R (x .store)) (left p x read)
-    all-state = h .state [] (λ e. refl) ∙ ap (stateOf p R (parse p R (x .store))) all-done
+    pub all-books : booksIn p R (y .buffers) ≡ booksAfter p R (booksIn p R (x .buffers)) (left p x read)
+    all-books = h .books [] (λ e. refl) ∙ ap (booksAfter p R (booksIn p R (x .buffers))) all-done
 
-    pub all-bytes : y .store ≡ image p R (stateOf p R (parse p R (x .store)) (left p x read))
-    all-bytes = h .store .bytes ∙ ap (image p R) all-state
+    pub all-bytes : y .buffers ≡ bytesFor p R (booksAfter p R (booksIn p R (x .buffers)) (left p x read))
+    all-bytes = booked-is (h .booked) ∙ ap (bytesFor p R) all-books

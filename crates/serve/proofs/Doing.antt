@@ -5,10 +5,10 @@ use mathlib.Core.Bool.{Bool, true, false, true≢false}
 use mathlib.Core.List.{List, [], _∷_, _++_}
 use lib.ListN.{length, take}
 use Rattle.rules.specs.Profile.{full}
-use Rattle.laid.specs.Store.{Store}
 use Rattle.serve.specs.declared.flow.Flow.{Flow}
 use Rattle.serve.specs.declared.flow.Turn.{Turn}
 use Rattle.serve.specs.declared.Taken.{Taken}
+use Rattle.serve.specs.Buffers.{Buffers, BookedIn}
 use Rattle.serve.specs.Flow.{Turned}
 use Rattle.serve.specs.Course.{Standing, standing, Came, TakenIn}
 use Rattle.serve.specs.Demanded.{Doing, reading, turning, Doings}
@@ -17,7 +17,7 @@ use Rattle.serve.proofs.Turning.{came-turn}
 
 module _ (R : ℕ) where
   -- behind the input's end nothing is read
-  last-read : (ds : List Doing) (f g : Flow) (s input read wrote after kept : List ℕ) → f .ended ≡ true → Doings R ds f s input read wrote g after kept
+  last-read : (ds : List Doing) (f g : Flow) (s : Buffers) (input read wrote : List ℕ) (after : Buffers) (kept : List ℕ) → f .ended ≡ true → Doings R ds f s input read wrote g after kept
       → (g .ended ≡ true) × (read ≡ [])
   unfolding Doings
   last-read [] f g s input read wrote after kept e d = (ap (λ (x : Flow). x .ended) (d .0) ∙ e, d .3)
@@ -26,13 +26,13 @@ module _ (R : ℕ) where
       last-read ds (d .5 .flow) g (d .0) (d .1) read (d .4) after kept (d .7 .ended ∙ e) (d .9)
 
   -- nothing was done; a piece came in first; a turn was taken first
-  none-done : (f g : Flow) (s input read wrote after kept : List ℕ) → Store full R s → g ≡ f → after ≡ s → kept ≡ input → read ≡ []
+  none-done : (f g : Flow) (s : Buffers) (input read wrote : List ℕ) (after : Buffers) (kept : List ℕ) → BookedIn full R s → g ≡ f → after ≡ s → kept ≡ input → read ≡ []
       → wrote ≡ []
       → Came full R (g .ended) (standing s f input) read (standing after g kept) wrote
   none-done f g s input read wrote after kept b e₁ e₂ e₃ e₄ e₅ =
       rw (e₁, e₂, e₃, e₄, e₅) (came-nowhere full R (f .ended) (standing s f input) b)
 
-  taken-then : (f : Flow) (s input mid : List ℕ) (t : Taken) (i : TakenIn f input mid t) → Store full R s
+  taken-then : (f : Flow) (s : Buffers) (input mid : List ℕ) (t : Taken) (i : TakenIn f input mid t) → BookedIn full R s
       → (ended : Bool) (y : Standing) (rest read wrote : List ℕ)
       → read ≡ i .piece ++ rest
       → Came full R ended (standing s (t .flow) mid) rest y wrote
@@ -43,19 +43,19 @@ module _ (R : ℕ) where
       (came-taken full R f s input mid t i b) c
       (λ u. absurd (true≢false (sym u))))
 
-  turned-then : (f : Flow) (s now input mid out done : List ℕ) (t : Turn) → f .have ≤ length input
+  turned-then : (f : Flow) (s now : Buffers) (input mid out done : List ℕ) (t : Turn) → f .have ≤ length input
       → Turned full R f s now input mid out done t
       → (ended : Bool) (y : Standing) (read rest wrote : List ℕ) → wrote ≡ take (t .ran .written) done ++ rest
       → (f .ended ≡ true → (ended ≡ true) × (read ≡ []))
-      → (Store full R now → Came full R ended (standing now (t .flow) mid) read y rest)
+      → (BookedIn full R now → Came full R ended (standing now (t .flow) mid) read y rest)
       → Came full R ended (standing s f input) read y wrote
   turned-then f s now input mid out done t l turn ended y read rest wrote e ends go =
       let c = came-turn full R f s now input mid out done t l turn in
       subst (λ (w : List ℕ). Came full R ended (standing s f input) read y w) (sym e)
       (came-then full R (f .ended) ended (standing s f input) (standing now (t .flow) mid) y [] read (take (t .ran .written) done) rest c
-      (go (c .store)) ends)
+      (go (c .booked)) ends)
 
-  pub came-doings : (ds : List Doing) (f g : Flow) (s input read wrote after kept : List ℕ) → Store full R s → Doings R ds f s input read wrote g after kept
+  pub came-doings : (ds : List Doing) (f g : Flow) (s : Buffers) (input read wrote : List ℕ) (after : Buffers) (kept : List ℕ) → BookedIn full R s → Doings R ds f s input read wrote g after kept
       → Came full R (g .ended) (standing s f input) read (standing after g kept) wrote
   unfolding Doings
   came-doings [] f g s input read wrote after kept b d = none-done f g s input read wrote after kept b (d .0) (d .1) (d .2) (d .3) (d .4)

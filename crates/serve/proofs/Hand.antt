@@ -1,5 +1,5 @@
 -- The bytes at hand, some of them taken away at the front. Assumes nothing.
-use Prim.Native.Nat.{ℕ, zero, suc, _+_, _-_, _≤_, _<_}
+use Prim.Native.Nat.{ℕ, zero, suc, _+_, _-_, _≤_, _<_, min}
 use native.Mathlib.Omega.{arith}
 use mathlib.Core.Path.{_≡_, refl, sym, _∙_, ap, subst}
 use mathlib.Core.Bool.{Bool, cond}
@@ -14,6 +14,7 @@ use Rattle.rules.specs.declared.profile.Profile.{Profile}
 use Rattle.requests.specs.declared.entry.Ran.{Ran}
 use Rattle.requests.specs.Stream.{Runs}
 use Rattle.serve.specs.declared.flow.Flow.{Flow}
+use Rattle.serve.specs.Buffers.{Buffers}
 use Rattle.serve.specs.Flow.{hand, Passes, Keeps, Turned}
 
 pub none-taken : {A : Type 0} (n : ℕ) (xs : List A) → n ≤ length xs → isNil (take n xs) ≡ eqb n 0
@@ -51,21 +52,25 @@ all-passed f xs l =
       ended = refl;
     }
 
+-- a run takes no more than is at hand
+pub taken-at-hand : (n k m : ℕ) (xs : List ℕ) → k ≡ min m (length (take (n - 0) xs)) → k ≤ n
+taken-at-hand n k m xs e = omega (arith, e, length-take (n - 0) xs)
+
 -- what is passed over, a run, and what it left
-pub turned : (p : Profile) (R : ℕ) (f g x : Flow) (before after input mid kept out done : List ℕ) (r : Ran) → Passes f input mid g
-    → Runs p R (take (g .have - 0) mid) (g .ended) (g .lines) before after out done r
+pub turned : (p : Profile) (R : ℕ) (f g x : Flow) (before after : Buffers) (input mid kept out done : List ℕ) (r : Ran) → Passes f input mid g
+    → Runs p R (take (g .have - 0) mid) (g .ended) (g .lines) (before .store) (before .journal) (after .store) (after .journal) out done r
     → Keeps g (r .taken) (r .skip) (r .lines) mid kept x
     → Turned p R f before after input kept out done (record { flow = x; ran = r })
 turned p R f g x before after input mid kept out done r h run k =
     let z : g .have - 0 ≡ g .have = omega arith in
-    let whole : Runs p R (hand g mid) (g .ended) (g .lines) before after out done r =
-    subst (λ (n : ℕ). Runs p R (take n mid) (g .ended) (g .lines) before after out done r) z run
+    let whole : Runs p R (hand g mid) (g .ended) (g .lines) (before .store) (before .journal) (after .store) (after .journal) out done r =
+    subst (λ (n : ℕ). Runs p R (take n mid) (g .ended) (g .lines) (before .store) (before .journal) (after .store) (after .journal) out done r) z run
     in
     record {
       ran =
-          subst (λ (l : List ℕ). Runs p R l (f .ended) (f .lines) before after out done r) (h .hand)
-          (subst (λ (b : Bool). Runs p R (hand g mid) b (f .lines) before after out done r) (h .ended)
-          (subst (λ (n : ℕ). Runs p R (hand g mid) (g .ended) n before after out done r) (h .lines) whole));
+          subst (λ (l : List ℕ). Runs p R l (f .ended) (f .lines) (before .store) (before .journal) (after .store) (after .journal) out done r) (h .hand)
+          (subst (λ (b : Bool). Runs p R (hand g mid) b (f .lines) (before .store) (before .journal) (after .store) (after .journal) out done r) (h .ended)
+          (subst (λ (n : ℕ). Runs p R (hand g mid) (g .ended) n (before .store) (before .journal) (after .store) (after .journal) out done r) (h .lines) whole));
       hand = k .hand ∙ ap (drop (r .taken)) (h .hand);
       have = k .have ∙ ap (λ (n : ℕ). n - r .taken) (h .have);
       skip = k .skip ∙ ap (λ (n : ℕ). cond (eqb n 0) (r .skip) n) (h .skip);

@@ -11,10 +11,10 @@ use borrow.Author.Tests.{eqb-true, eqb-false}
 use Rattle.values.specs.Basic.{isNil}
 use Rattle.forms.specs.Read.{Read}
 use Rattle.rules.specs.declared.profile.Profile.{Profile}
-use Rattle.rules.specs.State.{State}
-use Rattle.rules.specs.Layout.{parse}
+use Rattle.rules.specs.Journal.{Books}
 use Rattle.rules.specs.Request.{Request}
-use Rattle.requests.specs.Stream.{recordsIn, bytesOf, textOf, stateOf}
+use Rattle.requests.specs.Stream.{recordsIn, bytesOf, textOf, booksAfter}
+use Rattle.serve.specs.Buffers.{Buffers, booksIn}
 use Rattle.serve.specs.Course.{Standing, start, Came, mended}
 use Rattle.serve.proofs.Pieces.{no-records}
 use Rattle.serve.proofs.Cutting.{cut}
@@ -25,7 +25,7 @@ either-way true i = refl
 either-way false i = refl
 
 -- what was carried out of the log is carried out of the mended log, and nothing of it is left
-module _ (p : Profile) (R : ℕ) (s log : List ℕ) (y : Standing) (v : List ℕ) (c : Came p R false (start s) log y v)
+module _ (p : Profile) (R : ℕ) (s : Buffers) (log : List ℕ) (y : Standing) (v : List ℕ) (c : Came p R false (start s) log y v)
     (fill : List ℕ) (filled : length fill ≡ y .skip) (passing : (y .skip ≡ 0 → ⊥) → y .hand ≡ []) where
   abbrev n : ℕ
   n = c .count
@@ -99,29 +99,29 @@ module _ (p : Profile) (R : ℕ) (s log : List ℕ) (y : Standing) (v : List ℕ
   bytes-are more =
       ap (λ (l : List ℕ). bytesOf n (l ++ more) true) (sym is-kept) ∙ cut more true p n longer (c .few (fill ++ (0 ∷ [])) never) inside .1
 
-  state-is : parse p R (y .store) ≡ stateOf p R (parse p R s) us
-  state-is = c .state (fill ++ (0 ∷ [])) never
+  books-are : booksIn p R (y .buffers) ≡ booksAfter p R (booksIn p R s) us
+  books-are = c .books (fill ++ (0 ∷ [])) never
 
-  text-is : (ws : List (Read Request)) → textOf p R (parse p R s) (us ++ ws) 0
-      ≡ textOf p R (parse p R s) (recordsIn p kept true) 0 ++ textOf p R (parse p R (y .store)) ws 0
+  text-is : (ws : List (Read Request)) → textOf p R (booksIn p R s) (us ++ ws) 0
+      ≡ textOf p R (booksIn p R s) (recordsIn p kept true) 0 ++ textOf p R (booksIn p R (y .buffers)) ws 0
   text-is ws =
-      text-then p R (parse p R s) us ws 0
-      ∙ ap (λ (i : ℕ). textOf p R (parse p R s) us 0 ++ textOf p R (stateOf p R (parse p R s) us) ws i) (either-way (isNil us) 0)
-      ∙ ap (λ (st : State). textOf p R (parse p R s) us 0 ++ textOf p R st ws 0) (sym state-is)
-      ∙ ap (λ (vs : List (Read Request)). textOf p R (parse p R s) vs 0 ++ textOf p R (parse p R (y .store)) ws 0) (sym (kept-is true))
+      text-then p R (booksIn p R s) us ws 0
+      ∙ ap (λ (i : ℕ). textOf p R (booksIn p R s) us 0 ++ textOf p R (booksAfter p R (booksIn p R s) us) ws i) (either-way (isNil us) 0)
+      ∙ ap (λ (bs : Books). textOf p R (booksIn p R s) us 0 ++ textOf p R bs ws 0) (sym books-are)
+      ∙ ap (λ (vs : List (Read Request)). textOf p R (booksIn p R s) vs 0 ++ textOf p R (booksIn p R (y .buffers)) ws 0) (sym (kept-is true))
 
-  pub came-mended : Came p R false (start s) kept (start (y .store)) (textOf p R (parse p R s) (recordsIn p kept true) 0)
+  pub came-mended : Came p R false (start s) kept (start (y .buffers)) (textOf p R (booksIn p R s) (recordsIn p kept true) 0)
   came-mended =
       record {
-        store = c .store;
+        booked = c .booked;
         count = n;
         held = subst (λ (ws : List (Read Request)). n ≤ length ws) (sym (kept-is false)) (omega (arith, counted));
         few = λ more e. subst (λ (ws : List (Read Request)). n ≤ length ws) (sym (all-is more true))
             (rw (length-append us (recordsIn p more true)) (omega (arith, counted)));
         others = λ more e. sym (ap (drop n) (all-is more true) ∙ drop-at us (recordsIn p more true) n counted);
         place = λ more e. sym (ap (λ (j : ℕ). drop j (kept ++ more)) (bytes-are more) ∙ drop-at kept more b long);
-        state = λ more e. state-is
-            ∙ ap (stateOf p R (parse p R s)) (sym (ap (take n) (all-is more true) ∙ take-at us (recordsIn p more true) n counted));
-        text = λ more e. ap (λ (ws : List (Read Request)). textOf p R (parse p R s) ws 0) (all-is more true)
+        books = λ more e. books-are
+            ∙ ap (booksAfter p R (booksIn p R s)) (sym (ap (take n) (all-is more true) ∙ take-at us (recordsIn p more true) n counted));
+        text = λ more e. ap (λ (ws : List (Read Request)). textOf p R (booksIn p R s) ws 0) (all-is more true)
             ∙ text-is (recordsIn p more true);
       }

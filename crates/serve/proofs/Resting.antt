@@ -10,7 +10,6 @@ use lib.Seq.{length-take-le}
 use borrow.Author.Tests.{eqb-true, ltb-true, ltb-false}
 use Rattle.rules.specs.declared.profile.Profile.{Profile}
 use Rattle.rules.proofs.Tests.{by-cond}
-use Rattle.laid.specs.Store.{Store}
 use Rattle.records.specs.declared.frame.Framed.{Framed}
 use Rattle.records.specs.declared.frame.Framed.the-variants.{Whole, Skip, More, Cut, Done}
 use Rattle.records.specs.Frame.{framed, lengthOf, leastLength, mostLength}
@@ -23,6 +22,7 @@ use Rattle.serve.specs.declared.flow.Turn.{Turn}
 use Rattle.serve.specs.declared.End.the-variants.{Whole, Unsound, Unwritten}
 use Rattle.serve.specs.declared.Pause.{Pause}
 use Rattle.serve.specs.declared.Pause.the-variants as pause
+use Rattle.serve.specs.Buffers.{Buffers, BookedIn}
 use Rattle.serve.specs.Flow.{hand, Turned}
 use Rattle.serve.specs.Course.{standing, recordMost, Came, Rested}
 use Rattle.serve.proofs.Coming.{came-nowhere, came-then}
@@ -65,18 +65,18 @@ module _ (p : Profile) where
 
 -- ---- how far the answering came
 
-pub record Answering (p : Profile) (R : ℕ) (f : Flow) (before now input kept out : List ℕ) (g : Flow) : Type 0 where
+pub record Answering (p : Profile) (R : ℕ) (f : Flow) (before now : Buffers) (input kept out : List ℕ) (g : Flow) : Type 0 where
   pub wrote : List ℕ
   pub came : Came p R (f .ended) (standing before f input) [] (standing now g kept) wrote
   pub ended : g .ended ≡ f .ended
   pub have : g .have ≤ length kept
   pub room : rowMost ≤ length out
 
-module _ (p : Profile) (R : ℕ) (f : Flow) (before input : List ℕ) where
-  pub answering-start : (out : List ℕ) → Store p R before → f .have ≤ length input → rowMost ≤ length out → Answering p R f before before input input out f
+module _ (p : Profile) (R : ℕ) (f : Flow) (before : Buffers) (input : List ℕ) where
+  pub answering-start : (out : List ℕ) → BookedIn p R before → f .have ≤ length input → rowMost ≤ length out → Answering p R f before before input input out f
   answering-start out s l m = record { wrote = []; came = came-nowhere p R (f .ended) (standing before f input) s; ended = refl; have = l; room = m }
 
-  module _ (now kept out : List ℕ) (g : Flow) (h : Answering p R f before now input kept out g) (after rest done : List ℕ) (t : Turn)
+  module _ (now : Buffers) (kept out : List ℕ) (g : Flow) (h : Answering p R f before now input kept out g) (after : Buffers) (rest done : List ℕ) (t : Turn)
       (turn : Turned p R g now after kept rest out done t) (same : length rest ≡ length kept) (same-out : length done ≡ length out) where
     pub answering-turn : Answering p R f before after input rest done (t .flow)
     answering-turn =

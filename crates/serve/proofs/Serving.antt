@@ -10,10 +10,11 @@ use borrow.Rule.Slice.PartMut.{putMid}
 use Rattle.rules.specs.declared.profile.Profile.{Profile}
 use Rattle.rules.specs.Profile.{full}
 use Rattle.rules.specs.Layout.{parse, placesOf}
-use Rattle.rules.specs.Sound.{sound}
 use Rattle.rules.proofs.Valid.{valid-is, valid-laid}
-use Rattle.rules.proofs.Whole.{sound-image, places-image}
-use Rattle.laid.specs.Store.{Store}
+use Rattle.rules.proofs.Whole.{places-image}
+use Rattle.rules.proofs.Widths.{full-indexed}
+use Rattle.journal.proofs.Booking.{booked-sound, sound-booked}
+use Rattle.requests.proofs.Lending.{full-paging}
 use Rattle.requests.specs.Stream.{recordsIn}
 use Rattle.serve.specs.declared.flow.Flow.{Flow}
 use Rattle.serve.specs.declared.End.{End}
@@ -24,6 +25,7 @@ use Rattle.serve.specs.declared.Piece.the-variants.{Lost}
 use Rattle.serve.specs.declared.Taken.{Taken}
 use Rattle.serve.specs.declared.Rest.{Rest}
 use Rattle.serve.specs.declared.Report.{Report}
+use Rattle.serve.specs.Buffers.{Buffers, lent, placesIn, soundIn, BookedIn}
 use Rattle.serve.specs.Flow.{started, hand, Arrived}
 use Rattle.serve.specs.Course.{Standing, start, standing, recordMost, Came, Fails, TakenIn, Rested, Course, Served}
 use Rattle.serve.proofs.Hand.{none-taken}
@@ -52,7 +54,7 @@ taken-in f g n k input part x l m h a z =
 
 -- ---- how far the run came: it waits for more
 
-pub record Serving (p : Profile) (R : ℕ) (before now input : List ℕ) (f : Flow) : Type 0 where
+pub record Serving (p : Profile) (R : ℕ) (before now : Buffers) (input : List ℕ) (f : Flow) : Type 0 where
   pub read : List ℕ
   pub wrote : List ℕ
   pub came : Came p R false (start before) read (standing now f input) wrote
@@ -61,8 +63,8 @@ pub record Serving (p : Profile) (R : ℕ) (before now input : List ℕ) (f : Fl
   pub passing : (f .skip ≡ 0 → ⊥) → hand f input ≡ []
   pub none : recordsIn p (hand f input) false ≡ []
 
-module _ (p : Profile) (R : ℕ) (before : List ℕ) where
-  pub serving-start : (input : List ℕ) → Store p R before → Serving p R before before input started
+module _ (p : Profile) (R : ℕ) (before : Buffers) where
+  pub serving-start : (input : List ℕ) → BookedIn p R before → Serving p R before before input started
   serving-start input s =
       record {
         read = [];
@@ -74,7 +76,7 @@ module _ (p : Profile) (R : ℕ) (before : List ℕ) where
         none = no-records p false;
       }
 
-  module _ (now input : List ℕ) (f : Flow) (h : Serving p R before now input f) (room : recordMost ≤ length input) where
+  module _ (now : Buffers) (input : List ℕ) (f : Flow) (h : Serving p R before now input f) (room : recordMost ≤ length input) where
     -- ---- it ends between two reads
 
     pub course-waiting : (last : Bool) (r : Report) → r .torn ≡ f .have → r .missing ≡ f .skip → (r .end ≡ Whole → last ≡ false) → (r .end ≡ Unsound → ⊥)
@@ -86,7 +88,7 @@ module _ (p : Profile) (R : ℕ) (before : List ℕ) where
           ended = false;
           end = standing now f input;
           came = h .came;
-          store = refl;
+          buffers = refl;
           torn = t ∙ sym (length-take-le (f .have) input (omega (arith, h .have, room)));
           missing = m;
           passing = h .passing;
@@ -98,7 +100,7 @@ module _ (p : Profile) (R : ℕ) (before : List ℕ) where
 
     -- ---- something came in, and what is at hand is answered
 
-    module _ (mid : List ℕ) (t : Taken) (took : TakenIn f input mid t) (after kept : List ℕ) (r : Rest) (rest : Rested p R (t .flow) now after mid kept r) where
+    module _ (mid : List ℕ) (t : Taken) (took : TakenIn f input mid t) (after : Buffers) (kept : List ℕ) (r : Rest) (rest : Rested p R (t .flow) now after mid kept r) where
       abbrev piece : List ℕ
       piece = took .piece
 
@@ -112,7 +114,7 @@ module _ (p : Profile) (R : ℕ) (before : List ℕ) where
           let grown : Standing = standing now (t .flow) mid in
           came-then p R false (t .flow .ended) (start before) grown next (h .read ++ piece) [] (h .wrote ++ []) (rest .wrote)
           (came-then p R false false (start before) at grown (h .read) piece (h .wrote) [] (h .came)
-          (came-taken p R f now input mid t took (h .came .store)) (λ e. absurd (never e)))
+          (came-taken p R f now input mid t took (h .came .booked)) (λ e. absurd (never e)))
           (rest .came)
           (λ e. absurd (never e))
 
@@ -140,7 +142,7 @@ module _ (p : Profile) (R : ℕ) (before : List ℕ) where
             ended = t .flow .ended;
             end = next;
             came = came-next;
-            store = refl;
+            buffers = refl;
             torn = torn ∙ sym (length-take-le (r .flow .have) kept (rest .have));
             missing = missing;
             passing = rest .passing;
@@ -150,33 +152,38 @@ module _ (p : Profile) (R : ℕ) (before : List ℕ) where
             tested = λ e. rest .tested (w ∙ ap Over e);
           }
 
--- ---- the store stays sound, with as many places
+-- ---- the store keeps its places
 
-pub store-sound : (p : Profile) (R : ℕ) (s : List ℕ) → Store p R s → sound p s ≡ true
-store-sound p R s b =
-    subst (λ (l : List ℕ). sound p l ≡ true) (sym (b .bytes))
-    (sound-image p (b .coded .known) (b .indexed) R (b .places) (parse p R s) (valid-laid (valid-is p R (parse p R s) (b .valid))) (b .valid) (b .some))
+pub booked-places : (p : Profile) (R : ℕ) (x : Buffers) → BookedIn p R x → placesIn p x ≡ R
+booked-places p R x b =
+    let s = b .store in
+    ap (placesOf p) (s .bytes)
+    ∙ places-image p (s .coded .known) (s .indexed) R (s .places) (parse p R (x .store)) (valid-laid (valid-is p R (parse p R (x .store)) (s .valid)))
 
-pub store-places : (p : Profile) (R : ℕ) (s : List ℕ) → Store p R s → placesOf p s ≡ R
-store-places p R s b =
-    ap (placesOf p) (b .bytes)
-    ∙ places-image p (b .coded .known) (b .indexed) R (b .places) (parse p R s) (valid-laid (valid-is p R (parse p R s) (b .valid)))
+-- ---- tested once: the test leaves both as they were
 
--- ---- tested once
+pub both-same : {s j s₁ j₁ : List ℕ} → s₁ ≡ s → j₁ ≡ j → lent s₁ j₁ ≡ lent s j
+both-same e f = rw (e, f)
 
-module _ (before : List ℕ) (b : Bool) (e : b ≡ sound full before) where
-  pub served-unsound : (last : Bool) (r : Report) → b ≡ false → r .end ≡ Unsound → Served full before before last r
-  served-unsound last r f u =
+pub tested-booked : (before tested : Buffers) → tested ≡ before → (R : ℕ) → R ≡ placesIn full tested → soundIn full before ≡ true → BookedIn full R tested
+tested-booked before tested same R q h =
+    subst (λ (n : ℕ). BookedIn full n tested) (sym q)
+    (booked-sound full-paging full-indexed (tested .store) (tested .journal) (ap (soundIn full) same ∙ h))
+
+module _ (before : Buffers) (b : Bool) (e : b ≡ soundIn full before) (tested : Buffers) where
+  pub served-unsound : (last : Bool) (r : Report) → tested ≡ before → b ≡ false → r .end ≡ Unsound → Served full before tested last r
+  served-unsound last r same f u =
       record {
-        unsound = λ h. (refl, u);
+        unsound = λ h. (same, u);
         ran = λ h. absurd (true≢false (sym h ∙ sym e ∙ f));
-        sound = λ h. h;
+        sound = λ h. absurd (true≢false (sym h ∙ sym e ∙ f));
       }
 
-  pub served-sound : (R : ℕ) → R ≡ placesOf full before → (after : List ℕ) (last : Bool) (r : Report) → b ≡ true → Course full R before after last r → Served full before after last r
-  served-sound R q after last r t c =
+  pub served-sound : tested ≡ before → (R : ℕ) → R ≡ placesIn full tested → (after : Buffers) (last : Bool) (r : Report) → b ≡ true → Course full R tested after last r
+      → Served full before after last r
+  served-sound same R q after last r t c =
       record {
         unsound = λ h. absurd (true≢false (sym t ∙ e ∙ h));
-        ran = λ h. subst (λ (n : ℕ). Course full n before after last r) q c;
-        sound = λ h. subst (λ (l : List ℕ). sound full l ≡ true) (c .store) (store-sound full R (c .end .store) (c .came .store));
+        ran = λ h. subst (λ (x : Buffers). Course full (placesIn full x) x after last r) same (subst (λ (n : ℕ). Course full n tested after last r) q c);
+        sound = λ h. subst (λ (x : Buffers). soundIn full x ≡ true) (c .buffers) (sound-booked (c .came .booked));
       }

@@ -1,4 +1,4 @@
--- One turn over the bytes at hand: what comes after it of the records, the state and the text. Assumes nothing.
+-- One turn over the bytes at hand: what comes after it of the records, the books and the text. Assumes nothing.
 use Prim.Native.Nat.{ℕ, _+_, _-_, _≤_}
 use native.Mathlib.Omega.{arith}
 use mathlib.Core.Path.{_≡_, refl, sym, _∙_, ap, subst}
@@ -11,13 +11,13 @@ use borrow.Author.Tests.{leb-true, leb-false, eqb-true, eqb-false, eq-eqb, ne-eq
 use Rattle.values.specs.Basic.{isNil}
 use Rattle.forms.specs.Read.{Read}
 use Rattle.rules.specs.declared.profile.Profile.{Profile}
-use Rattle.rules.specs.State.{State}
-use Rattle.rules.specs.Layout.{parse}
+use Rattle.rules.specs.Journal.{Books}
 use Rattle.rules.specs.Request.{Request}
 use Rattle.requests.specs.declared.entry.Ran.{Ran}
-use Rattle.requests.specs.Stream.{recordsIn, bytesOf, textOf, stateOf, Runs}
+use Rattle.requests.specs.Stream.{recordsIn, bytesOf, textOf, booksAfter, Runs}
 use Rattle.serve.specs.declared.flow.Flow.{Flow}
 use Rattle.serve.specs.declared.flow.Turn.{Turn}
+use Rattle.serve.specs.Buffers.{Buffers, booksIn}
 use Rattle.serve.specs.Flow.{hand, Turned}
 use Rattle.serve.specs.Course.{Standing, standing, ahead, left, Came}
 use Rattle.serve.proofs.Hand.{none-taken}
@@ -25,21 +25,21 @@ use Rattle.serve.proofs.Pieces.{no-records, split, same-bytes, bytes-ze
 use Rattle.serve.proofs.Texts.{text-onward}
 
 -- the text of the records at hand
-abbrev pub atHand : Profile → ℕ → List ℕ → Flow → List ℕ → List ℕ
-atHand p R s f input = textOf p R (parse p R s) (recordsIn p (drop (f .skip) (hand f input)) (f .ended)) (f .lines)
+abbrev pub atHand : Profile → ℕ → Buffers → Flow → List ℕ → List ℕ
+atHand p R s f input = textOf p R (booksIn p R s) (recordsIn p (drop (f .skip) (hand f input)) (f .ended)) (f .lines)
 
 -- ---- a run over the bytes a: whatever follows them
 
 -- the records of all that comes, and those behind the run
-pub record Onward (p : Profile) (R : ℕ) (i : ℕ) (before after done : List ℕ) (r : Ran) (held all rest : List (Read Request)) : Type 0 where
+pub record Onward (p : Profile) (R : ℕ) (i : ℕ) (before after : Buffers) (done : List ℕ) (r : Ran) (held all rest : List (Read Request)) : Type 0 where
   pub few : r .count ≤ length all
   pub others : rest ≡ drop (r .count) all
   pub first : take (r .count) all ≡ take (r .count) held
-  pub text : textOf p R (parse p R before) all i ≡ take (r .written) done ++ textOf p R (parse p R after) rest (r .lines)
+  pub text : textOf p R (booksIn p R before) all i ≡ take (r .written) done ++ textOf p R (booksIn p R after) rest (r .lines)
 
-module _ (p : Profile) (R : ℕ) (a : List ℕ) (i : ℕ) (before after out done : List ℕ) (r : Ran) where
-  abbrev st : State
-  st = parse p R before
+module _ (p : Profile) (R : ℕ) (a : List ℕ) (i : ℕ) (before after : Buffers) (out done : List ℕ) (r : Ran) where
+  abbrev bs : Books
+  bs = booksIn p R before
 
   abbrev n : ℕ
   n = r .count
@@ -51,7 +51,7 @@ module _ (p : Profile) (R : ℕ) (a : List ℕ) (i : ℕ) (before after out done
   abbrev behind : List ℕ → List ℕ
   behind more = drop (r .skip) (drop (r .taken) a ++ more)
 
-  module _ (ended : Bool) (run : Runs p R a ended i before after out done r) where
+  module _ (ended : Bool) (run : Runs p R a ended i (before .store) (before .journal) (after .store) (after .journal) out done r) where
     abbrev held : List (Read Request)
     held = recordsIn p a ended
 
@@ -80,8 +80,8 @@ module _ (p : Profile) (R : ℕ) (a : List ℕ) (i : ℕ) (before after out done
     lines-then e = run .next e ∙ ap (λ (b : Bool). cond b i 0) (sym (none-taken n held (run .few)))
 
     -- the text of the records at hand, the first of them and the others apart
-    text-apart : textOf p R st (take n held ++ drop n held) i ≡ wrote ++ textOf p R (stateOf p R st (take n held)) (drop n held) (r .lines)
-    text-apart = ap (λ (ws : List (Read Request)). textOf p R st ws i) (take-append-drop n held) ∙ run .text
+    text-apart : textOf p R bs (take n held ++ drop n held) i ≡ wrote ++ textOf p R (booksAfter p R bs (take n held)) (drop n held) (r .lines)
+    text-apart = ap (λ (ws : List (Read Request)). textOf p R bs ws i) (take-append-drop n held) ∙ run .text
 
     -- where bytes are still to be passed over, the run took all that is at hand
     all-taken : (r .skip ≡ 0 → ⊥) → drop (r .taken) a ≡ []
@@ -98,7 +98,7 @@ module _ (p : Profile) (R : ℕ) (a : List ℕ) (i : ℕ) (before after out done
             ap (λ (l : List ℕ). recordsIn p (drop (r .skip) l) ended) z ∙ ap (λ (l : List ℕ). recordsIn p l ended) (drop-nil (r .skip) ∙ sym z)
 
   -- more may follow
-  module _ (run : Runs p R a false i before after out done r) (more : List ℕ) where
+  module _ (run : Runs p R a false i (before .store) (before .journal) (after .store) (after .journal) out done r) (more : List ℕ) where
     abbrev ws : List (Read Request)
     ws = recordsIn p a false
 
@@ -126,14 +126,14 @@ module _ (p : Profile) (R : ℕ) (a : List ℕ) (i : ℕ) (before after out done
           others = others-are;
           first = ap (take n) all-is ∙ take-at (take n ws) rest n count-is;
           text =
-              ap (λ (l : List (Read Request)). textOf p R st l i) (all-is ∙ ap (λ (l : List (Read Request)). take n ws ++ l) rest-is)
-              ∙ text-onward p R st (take n ws) i (r .lines) wrote (drop n ws) (text-apart false run) (lines-then false run) far
-              ∙ ap (λ (l : List (Read Request)). wrote ++ textOf p R (stateOf p R st (take n ws)) l (r .lines)) (sym rest-is)
-              ∙ ap (λ (x : State). wrote ++ textOf p R x rest (r .lines)) (sym (run .state));
+              ap (λ (l : List (Read Request)). textOf p R bs l i) (all-is ∙ ap (λ (l : List (Read Request)). take n ws ++ l) rest-is)
+              ∙ text-onward p R bs (take n ws) i (r .lines) wrote (drop n ws) (text-apart false run) (lines-then false run) far
+              ∙ ap (λ (l : List (Read Request)). wrote ++ textOf p R (booksAfter p R bs (take n ws)) l (r .lines)) (sym rest-is)
+              ∙ ap (λ (x : Books). wrote ++ textOf p R x rest (r .lines)) (sym (run .books));
         }
 
   -- nothing follows
-  module _ (run : Runs p R a true i before after out done r) where
+  module _ (run : Runs p R a true i (before .store) (before .journal) (after .store) (after .journal) out done r) where
     pub ended-onward : Onward p R i before after done r (recordsIn p a true) (recordsIn p (a ++ []) true) (recordsIn p (behind []) true)
     ended-onward =
         let e : recordsIn p (a ++ []) true ≡ recordsIn p a true = ap (λ (l : List ℕ). recordsIn p l true) (append-nil a) in
@@ -145,14 +145,14 @@ module _ (p : Profile) (R : ℕ) (a : List ℕ) (i : ℕ) (before after out done
           others = o ∙ ap (drop n) (sym e);
           first = ap (take n) e;
           text =
-              ap (λ (l : List (Read Request)). textOf p R st l i) e
+              ap (λ (l : List (Read Request)). textOf p R bs l i) e
               ∙ run .text
-              ∙ ap (λ (x : State). wrote ++ textOf p R x (drop n (recordsIn p a true)) (r .lines)) (sym (run .state))
-              ∙ ap (λ (l : List (Read Request)). wrote ++ textOf p R (parse p R after) l (r .lines)) (sym o);
+              ∙ ap (λ (x : Books). wrote ++ textOf p R x (drop n (recordsIn p a true)) (r .lines)) (sym (run .books))
+              ∙ ap (λ (l : List (Read Request)). wrote ++ textOf p R (booksIn p R after) l (r .lines)) (sym o);
         }
 
   -- whether or not more may follow
-  pub goes-on : (ended : Bool) → Runs p R a ended i before after out done r → (more : List ℕ) → (ended ≡ true → more ≡ [])
+  pub goes-on : (ended : Bool) → Runs p R a ended i (before .store) (before .journal) (after .store) (after .journal) out done r → (more : List ℕ) → (ended ≡ true → more ≡ [])
       → Onward p R i before after done r (recordsIn p a ended) (recordsIn p (a ++ more) true) (recordsIn p (behind more) true)
   goes-on false run more e = onward run more
   goes-on true run more e =
@@ -160,7 +160,7 @@ module _ (p : Profile) (R : ℕ) (a : List ℕ) (i : ℕ) (before after out done
 
 -- ---- a turn
 
-module _ (p : Profile) (R : ℕ) (f : Flow) (before after input kept out done : List ℕ) (t : Turn) (have : f .have ≤ length input)
+module _ (p : Profile) (R : ℕ) (f : Flow) (before after : Buffers) (input kept out done : List ℕ) (t : Turn) (have : f .have ≤ length input)
     (turn : Turned p R f before after input kept out done t) where
   abbrev x : Standing
   x = standing before f input
@@ -229,26 +229,26 @@ module _ (p : Profile) (R : ℕ) (f : Flow) (before after input kept out done : 
     same-lines : r .lines ≡ f .lines
     same-lines = turn .ran .next (ap (drop (r .count)) none-held ∙ drop-nil (r .count)) ∙ ap (λ (b : Bool). cond b (f .lines) 0) (eq-eqb (r .count) 0 none-counted)
 
-    no-text : (st : State) (i : ℕ) → textOf p R st [] i ≡ []
+    no-text : (bs : Books) (i : ℕ) → textOf p R bs [] i ≡ []
     unfolding textOf
-    no-text st i = refl
+    no-text bs i = refl
 
-    no-state : (st : State) (ws : List (Read Request)) → stateOf p R st (take 0 ws) ≡ st
-    unfolding stateOf
-    no-state st ws = refl
+    no-books : (bs : Books) (ws : List (Read Request)) → booksAfter p R bs (take 0 ws) ≡ bs
+    unfolding booksAfter
+    no-books bs ws = refl
 
-    same-state : parse p R after ≡ parse p R before
-    same-state =
-        turn .ran .state ∙ ap (λ (k : ℕ). stateOf p R (parse p R before) (take k held-now)) none-counted ∙ no-state (parse p R before) held-now
+    same-books : booksIn p R after ≡ booksIn p R before
+    same-books =
+        turn .ran .books ∙ ap (λ (k : ℕ). booksAfter p R (booksIn p R before) (take k held-now)) none-counted ∙ no-books (booksIn p R before) held-now
 
     none-wrote : take (r .written) done ≡ []
     none-wrote =
         sym (append-nil (take (r .written) done))
         ∙ ap (λ (l : List ℕ). take (r .written) done ++ l)
-        (sym (ap (λ (l : List (Read Request)). textOf p R (stateOf p R (parse p R before) (take (r .count) held-now)) l (r .lines)) (ap (drop (r .count)) none-held ∙ drop-nil (r .count)) ∙ no-text _ (r .lines)))
+        (sym (ap (λ (l : List (Read Request)). textOf p R (booksAfter p R (booksIn p R before) (take (r .count) held-now)) l (r .lines)) (ap (drop (r .count)) none-held ∙ drop-nil (r .count)) ∙ no-text _ (r .lines)))
         ∙ sym (turn .ran .text)
-        ∙ ap (λ (l : List (Read Request)). textOf p R (parse p R before) l (f .lines)) none-held
-        ∙ no-text (parse p R before) (f .lines)
+        ∙ ap (λ (l : List (Read Request)). textOf p R (booksIn p R before) l (f .lines)) none-held
+        ∙ no-text (booksIn p R before) (f .lines)
 
     same-ahead : (more : List ℕ) → ahead y more ≡ ahead x more
     same-ahead more =
@@ -265,10 +265,10 @@ module _ (p : Profile) (R : ℕ) (f : Flow) (before after input kept out done : 
           others = same ∙ ap (λ (k : ℕ). drop k (left p x more)) (sym none-counted);
           first = ap (λ (k : ℕ). take k (left p x more)) none-counted ∙ ap (λ (k : ℕ). take k held-now) (sym none-counted);
           text =
-              ap (λ (l : List (Read Request)). textOf p R (parse p R before) l (f .lines)) (sym same)
-              ∙ ap (λ (k : ℕ). textOf p R (parse p R before) (left p y more) k) (sym same-lines)
-              ∙ ap (λ (st : State). textOf p R st (left p y more) (r .lines)) (sym same-state)
-              ∙ ap (λ (l : List ℕ). l ++ textOf p R (parse p R after) (left p y more) (r .lines)) (sym none-wrote);
+              ap (λ (l : List (Read Request)). textOf p R (booksIn p R before) l (f .lines)) (sym same)
+              ∙ ap (λ (k : ℕ). textOf p R (booksIn p R before) (left p y more) k) (sym same-lines)
+              ∙ ap (λ (bs : Books). textOf p R bs (left p y more) (r .lines)) (sym same-books)
+              ∙ ap (λ (l : List ℕ). l ++ textOf p R (booksIn p R after) (left p y more) (r .lines)) (sym none-wrote);
         }
 
   turn-onward : (b : Bool) → eqb d 0 ≡ b → (more : List ℕ) → (f .ended ≡ true → more ≡ [])
@@ -303,7 +303,7 @@ module _ (p : Profile) (R : ℕ) (f : Flow) (before after input kept out done : 
       turn-onward (eqb d 0) refl
       in
       record {
-        store = turn .ran .kept;
+        booked = turn .ran .kept;
         count = r .count;
         held =
             subst (λ (l : List ℕ). r .count ≤ length (recordsIn p (drop (f .skip) l) (f .ended))) (sym (append-nil (hand f input)))
@@ -311,8 +311,8 @@ module _ (p : Profile) (R : ℕ) (f : Flow) (before after input kept out done : 
         few = λ more h. o more h .few;
         others = λ more h. o more h .others;
         place = turn-place (eqb d 0) refl;
-        state = λ more h. turn .ran .state ∙ ap (stateOf p R (parse p R before)) (sym (o more h .first));
-        text = λ more h. o more h .text ∙ ap (λ (k : ℕ). take (r .written) done ++ textOf p R (parse p R after) (left p y more) k) (sym (turn .lines));
+        books = λ more h. turn .ran .books ∙ ap (booksAfter p R (booksIn p R before)) (sym (o more h .first));
+        text = λ more h. o more h .text ∙ ap (λ (k : ℕ). take (r .written) done ++ textOf p R (booksIn p R after) (left p y more) k) (sym (turn .lines));
       }
 
   -- where bytes are still to be passed over, none is at hand
@@ -355,6 +355,6 @@ module _ (p : Profile) (R : ℕ) (f : Flow) (before after input kept out done : 
   pub text-shrinks : atHand p R before f input ≡ take (r .written) done ++ atHand p R after (t .flow) kept
   text-shrinks =
       turn .ran .text
-      ∙ ap (λ (st : State). take (r .written) done ++ textOf p R st (drop (r .count) held-now) (r .lines)) (sym (turn .ran .state))
-      ∙ ap (λ (ws : List (Read Request)). take (r .written) done ++ textOf p R (parse p R after) ws (r .lines)) (sym held-then)
-      ∙ ap (λ (k : ℕ). take (r .written) done ++ textOf p R (parse p R after) (recordsIn p (drop (t .flow .skip) (hand (t .flow) kept)) (t .flow .ended)) k) (sym (turn .lines))
+      ∙ ap (λ (bs : Books). take (r .written) done ++ textOf p R bs (drop (r .count) held-now) (r .lines)) (sym (turn .ran .books))
+      ∙ ap (λ (ws : List (Read Request)). take (r .written) done ++ textOf p R (booksIn p R after) ws (r .lines)) (sym held-then)
+      ∙ ap (λ (k : ℕ). take (r .written) done ++ textOf p R (booksIn p R after) (recordsIn p (drop (t .flow .skip) (hand (t .flow) kept)) (t .flow .ended)) k) (sym (turn .lines))

@@ -9,6 +9,7 @@ use Rattle.rules.specs.declared.profile.Profile.{Profile}
 use Rattle.requests.specs.Stream.{Runs}
 use Rattle.serve.specs.declared.flow.Flow.{Flow}
 use Rattle.serve.specs.declared.flow.Turn.{Turn}
+use Rattle.serve.specs.Buffers.{Buffers}
 
 abbrev pub started : Flow
 started = record { have = 0; skip = 0; lines = 0; ended = false }
@@ -41,8 +42,8 @@ pub record Keeps (f : Flow) (taken over shown : ℕ) (before after : List ℕ) (
   pub ended : r .ended ≡ f .ended
 
 -- a turn: a run over what is at hand behind what is passed over; what it did not take stays at hand
-pub record Turned (p : Profile) (R : ℕ) (f : Flow) (before after input kept out done : List ℕ) (t : Turn) : Type 0 where
-  pub ran : Runs p R (drop (f .skip) (hand f input)) (f .ended) (f .lines) before after out done (t .ran)
+pub record Turned (p : Profile) (R : ℕ) (f : Flow) (before after : Buffers) (input kept out done : List ℕ) (t : Turn) : Type 0 where
+  pub ran : Runs p R (drop (f .skip) (hand f input)) (f .ended) (f .lines) (before .store) (before .journal) (after .store) (after .journal) out done (t .ran)
   pub hand : hand (t .flow) kept ≡ drop (t .ran .taken) (drop (f .skip) (hand f input))
   pub have : t .flow .have ≡ f .have - f .skip - t .ran .taken
   pub skip : t .flow .skip ≡ cond (eqb (f .skip - f .have) 0) (t .ran .skip) (f .skip - f .have)

@@ -1,3 +1,4 @@
+pub mod Buffers
 pub mod Flow
 pub mod Course
 pub mod Demanded

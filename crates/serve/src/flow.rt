@@ -8,7 +8,9 @@ ghost use mathlib.Core.Bool.{cond};
 ghost use lib.Dec.{eqb};
 ghost use Prim.Native.Nat.{_+_, _-_, _≤_};
 ghost use lib.ListN.{length, take, drop};
-ghost use Rattle.laid.specs.Store.{Store};
+ghost use Rattle.sound.specs.Missing.{Missing};
+ghost use Rattle.journal.specs.Books.{Booked};
+ghost use Rattle.serve.specs.Buffers.{lent};
 ghost use Rattle.serve.specs.Flow.{started, Arrived, Passes, Keeps, Turned};
 
 // Bytes at hand, at the front of the input's buffer; bytes to pass over before the next record; row lines of the next record that are written; and
@@ -111,18 +113,19 @@ pub fn take_turn(
     s: &mut [u8],
     p: Profile,
     places: usize,
+    j: &mut [u8],
     input: &mut [u8],
     out: &mut [u8],
     f: Flow,
 ) -> Turn
-    requires { ⌜ Store p places (now s) ⌝ }
-    requires { ⌜ p .columns ≤ 8 ⌝ }
+    requires { ⌜ Booked p places (now s) (now j) ⌝ }
     requires { ⌜ f .have ≤ length (now input) ⌝ }
-    ensures { λ r. ⌜ Turned p places f (now (s .entry)) (now (s .exit)) (now (input .entry)) (now (input .exit)) (now (out .entry)) (now (out .exit)) r ⌝ }
+    requires { ⌜ Missing ⌝ }
+    ensures { λ r. ⌜ Turned p places f (lent (now (s .entry)) (now (j .entry))) (lent (now (s .exit)) (now (j .exit))) (now (input .entry)) (now (input .exit)) (now (out .entry)) (now (out .exit)) r ⌝ }
 {
     let g = pass_over(input, f);
     let have = g.have;
-    let ran = entry::run(s, p, places, &input[0..have], g.ended, g.lines, out);
+    let ran = entry::run(s, p, places, j, &input[0..have], g.ended, g.lines, out);
     let flow = keep(input, g, ran);
     Turn { flow, ran }
 }

@@ -1,4 +1,4 @@
-// Records from one file, answered in lines to another over a lent store. Only reading, writing and keeping a log stand outside what is proved of
+// Records from one file, answered in lines to another over a lent store and its journal. Only reading, writing and keeping a log stand outside what is proved of
 // bytes: `flow` has the rest.
 pub mod flow; // what stands between two reads, and one turn: over slices alone
 
@@ -10,14 +10,16 @@ use rules::answer::Refusal;
 use rules::profile;
 use rules::profile::Profile;
 use sound::fresh;
-use sound::soundness;
+use sound::journal_test;
 ghost use mathlib.Core.Path.{_≡_};
 ghost use mathlib.Core.Bool.{true, false};
 ghost use Prim.Native.Nat.{_≤_, _<_};
 ghost use lib.ListN.{length};
 ghost use Rattle.rules.specs.Profile.{full};
-ghost use Rattle.laid.specs.Store.{Store};
+ghost use Rattle.sound.specs.Missing.{Missing};
+ghost use Rattle.journal.specs.Books.{Booked};
 ghost use Rattle.requests.specs.Lines.{rowMost};
+ghost use Rattle.serve.specs.Buffers.{lent};
 ghost use Rattle.serve.specs.Course.{recordMost, TakenIn, Rested, Course, Served};
 
 // Where there is no such file.
@@ -27,7 +29,7 @@ pub const NONE: i32 = -1;
 pub enum End {
     // every record of the input is answered
     Whole,
-    // the store is not sound: 38 was said and nothing was read
+    // the store or its journal is not sound: 38 was said and nothing was read
     Unsound,
     // the input could not be read on
     Unread,
@@ -100,21 +102,22 @@ fn answer_all(
     s: &mut [u8],
     p: Profile,
     places: usize,
+    j: &mut [u8],
     input: &mut [u8],
     out: &mut [u8],
     to: i32,
     f: Flow,
 ) -> Rest
-    requires { ⌜ Store p places (now s) ⌝ }
-    requires { ⌜ p .columns ≤ 8 ⌝ }
+    requires { ⌜ Missing ⌝ }
+    requires { ⌜ Booked p places (now s) (now j) ⌝ }
     requires { ⌜ f .have ≤ length (now input) ⌝ }
     requires { ⌜ rowMost ≤ length (now out) ⌝ }
-    ensures { λ r. ⌜ Rested p places f (now (s .entry)) (now (s .exit)) (now (input .entry)) (now (input .exit)) r ⌝ }
+    ensures { λ r. ⌜ Rested p places f (lent (now (s .entry)) (now (j .entry))) (lent (now (s .exit)) (now (j .exit))) (now (input .entry)) (now (input .exit)) r ⌝ }
 {
     let mut g = f;
     let mut records = 0;
     loop {
-        let t = flow::take_turn(s, p, places, input, out, g);
+        let t = flow::take_turn(s, p, places, j, input, out, g);
         let next = t.flow;
         let ran = t.ran;
         g = next;
@@ -144,7 +147,7 @@ fn answer_all(
                     pause: Pause::Over(End::Whole),
                 };
             }
-            // never: the store is known to be sound
+            // never: both are known to be sound
             Halt::Unsound => {
                 return Rest {
                     flow: g,
@@ -205,6 +208,7 @@ fn run(
     s: &mut [u8],
     p: Profile,
     places: usize,
+    j: &mut [u8],
     input: &mut [u8],
     out: &mut [u8],
     from: i32,
@@ -212,11 +216,11 @@ fn run(
     log: i32,
     last: bool,
 ) -> Report
-    requires { ⌜ Store p places (now s) ⌝ }
-    requires { ⌜ p .columns ≤ 8 ⌝ }
+    requires { ⌜ Missing ⌝ }
+    requires { ⌜ Booked p places (now s) (now j) ⌝ }
     requires { ⌜ recordMost ≤ length (now input) ⌝ }
     requires { ⌜ rowMost ≤ length (now out) ⌝ }
-    ensures { λ r. ⌜ Course p places (now (s .entry)) (now (s .exit)) last r ⌝ }
+    ensures { λ r. ⌜ Course p places (lent (now (s .entry)) (now (j .entry))) (lent (now (s .exit)) (now (j .exit))) last r ⌝ }
 {
     let mut f = flow::start();
     let mut records = 0;
@@ -236,7 +240,7 @@ fn run(
             return told(End::Whole, records, bytes, f);
         }
         bytes = std::num::wrapping_add_u64(bytes, taken.count as u64);
-        let rest = answer_all(s, p, places, input, out, to, next);
+        let rest = answer_all(s, p, places, j, input, out, to, next);
         let after = rest.flow;
         records = std::num::wrapping_add_u64(records, rest.records);
         let pause = rest.pause;
@@ -252,13 +256,14 @@ fn run(
     told(End::Unread, records, bytes, f)
 }
 
-// Tests the store once, and runs the input over it; 38 where it is not sound.
-fn over(s: &mut [u8], from: i32, to: i32, log: i32, last: bool) -> Report
-    ensures { λ r. ⌜ Served full (now (s .entry)) (now (s .exit)) last r ⌝ }
+// Tests both once, and runs the input over them; 38 where one is not sound.
+fn over(s: &mut [u8], j: &mut [u8], from: i32, to: i32, log: i32, last: bool) -> Report
+    requires { ⌜ Missing ⌝ }
+    ensures { λ r. ⌜ Served full (lent (now (s .entry)) (now (j .entry))) (lent (now (s .exit)) (now (j .exit))) last r ⌝ }
 {
     let mut input = io::large_buffer();
     let mut out = io::large_buffer();
-    if !soundness::is_sound(s) {
+    if !journal_test::are_sound(s, j) {
         let n = line::put_answer(&mut out, answer::refused(Refusal::StoreUnsound, 0));
         write_out(to, &out[0..n]);
         return told(End::Unsound, 0, 0, flow::start());
@@ -268,6 +273,7 @@ fn over(s: &mut [u8], from: i32, to: i32, log: i32, last: bool) -> Report
         s,
         profile::FULL,
         places,
+        j,
         &mut input,
         &mut out,
         from,
@@ -279,15 +285,18 @@ fn over(s: &mut [u8], from: i32, to: i32, log: i32, last: bool) -> Report
 
 // Answers the records that come from one file in lines to the other. Each piece of the input is appended to the log, if there is one, and on the disk
 // before a record in it is carried out and answered.
-pub fn serve(s: &mut [u8], from: i32, to: i32, log: i32) -> Report
-    ensures { λ r. ⌜ Served full (now (s .entry)) (now (s .exit)) true r ⌝ }
+pub fn serve(s: &mut [u8], j: &mut [u8], from: i32, to: i32, log: i32) -> Report
+    requires { ⌜ Missing ⌝ }
+    ensures { λ r. ⌜ Served full (lent (now (s .entry)) (now (j .entry))) (lent (now (s .exit)) (now (j .exit))) true r ⌝ }
 {
-    over(s, from, to, log, true)
+    over(s, j, from, to, log, true)
 }
 
-// Carries the records of a log out again, without a word. Where it ends in the middle of a record, the report says so.
-pub fn replay(s: &mut [u8], log: i32) -> Report
-    ensures { λ r. ⌜ Served full (now (s .entry)) (now (s .exit)) false r ⌝ }
+// Carries the records of a log out again, without a word: a batch that was open is open again. Where it ends in the middle of a record, the report says
+// so.
+pub fn replay(s: &mut [u8], j: &mut [u8], log: i32) -> Report
+    requires { ⌜ Missing ⌝ }
+    ensures { λ r. ⌜ Served full (lent (now (s .entry)) (now (j .entry))) (lent (now (s .exit)) (now (j .exit))) false r ⌝ }
 {
-    over(s, log, NONE, NONE, false)
+    over(s, j, log, NONE, NONE, false)
 }

@@ -6,7 +6,7 @@ use Rattle.lent.proofs.main.Statement.{statement}
 use Rattle.lent.proofs.main.Tie as tie
 
 abbrev Inv-loop : tie.InvT-loop
-Inv-loop count last i₀ i = last + 2 ≡ count
+Inv-loop count last i₀ i = last + 4 ≡ count
 
 abbrev μ-loop : tie.MeasureT-loop
 μ-loop count last i₀ i = last - i
@@ -56,6 +56,12 @@ add-run-case c = search needs
 add-run-case-2 : tie.Need-add-run-case-2 Inv-loop μ-loop
 add-run-case-2 c = search needs
 
+add-run-case-3 : tie.Need-add-run-case-3 Inv-loop μ-loop
+add-run-case-3 c = search needs
+
+add-run-case-4 : tie.Need-add-run-case-4 Inv-loop μ-loop
+add-run-case-4 c = search needs
+
 run-case-requires : tie.Need-run-case-requires Inv-loop μ-loop
 run-case-requires c κs = search needs
 
@@ -92,6 +98,8 @@ main-spec =
     loop-holds
     add-run-case
     add-run-case-2
+    add-run-case-3
+    add-run-case-4
     run-case-requires
     add-i
     loop-less
