@@ -1,8 +1,8 @@
 -- Operations that only read: keys found one by one, the operands behind a table's name, what get, lookup, scan and list answer; and which operation a
 -- number says. Assumes nothing.
-use Prim.Native.Nat.{ℕ, suc, _+_, _-_, _<_}
+use Prim.Native.Nat.{ℕ, suc, _+_, _-_, _<_, _≤_}
 use native.Mathlib.Omega.{arith}
-use mathlib.Core.Path.{_≡_, refl, sym, ap, _∙_}
+use mathlib.Core.Path.{_≡_, refl, sym, ap, _∙_, subst}
 use mathlib.Core.Bool.{true, false, true≢false}
 use mathlib.Core.List.{List, [], _∷_}
 use mathlib.Core.Option.{Option, none, some}
@@ -20,9 +20,10 @@ use Rattle.forms.specs.declared.read.ReadName.{ReadName}
 use Rattle.forms.specs.declared.read.ReadName.the-variants.{Named, Bad}
 use Rattle.rules.specs.declared.profile.Profile.{Profile}
 use Rattle.rules.specs.declared.answer.Answer.{Answer}
-use Rattle.rules.specs.State.{Name, Table, Row, State, isRow, rowWith, rowsOf}
+use Rattle.rules.specs.State.{Name, Table, Row, isRow, rowWith, rowsOf}
 use Rattle.rules.specs.Layout.{Schemas, tablesCount, lists, readTable, parse}
-use Rattle.rules.specs.Request.{Request, Delete, Get, Lookup, Scan, Names, said, ok}
+use Rattle.rules.specs.Journal.{Books}
+use Rattle.rules.specs.Request.{Request, Delete, Get, Lookup, Scan, Names, Open, Keep, Back, said, ok}
 use Rattle.rules.specs.Step.{found, lookup, act}
 use Rattle.laid.specs.Catalog.{placeOf}
 use Rattle.checks.specs.Keys.{valuesFrom}
@@ -33,10 +34,14 @@ use Rattle.laid.proofs.Inside.{area-count}
 use Rattle.mapping.specs.Got.{isGot, gotOr}
 use Rattle.records.specs.Reading.{andThen, byteAt}
 use Rattle.records.specs.Record.{valuesAt, createAt, dropAt, insertAt, updateAt, keysAt, lookupAt, scanAt, operandsAt}
-use Rattle.operations.specs.Told.{Acted, Replied}
+use Rattle.operations.specs.Told.{Acted, Replied, reads}
 use Rattle.records.specs.Walked.{walkedAs}
 use Rattle.records.proofs.Walking.{unknown}
 use Rattle.checks.proofs.KeysRead.{values-end, values-got, values-broken}
+use lib.Dec.{ltb}
+use borrow.Author.Tests.{lt-ltb, le-ltb}
+use Rattle.rules.proofs.Tests.{and-both}
+use Rattle.operations.proofs.Entered.{reads-range}
 use Rattle.operations.proofs.Operands.{named-then, unnamed, keys-read}
 use Rattle.mapping.proofs.ValuesFrom.{was-got, got-gives, parted, byte-there, values-there, values-inside}
 
@@ -87,26 +92,26 @@ module _ (rs : List Row) (n : Name) (s : List ℕ) (left next c z : ℕ) (inv : 
 
 -- ---- what is answered
 
-module _ (p : Profile) (R : ℕ) (st : State) (q : Request) (a : Answer) where
-  get-answered : (n : Name) (ks : List Value) → q ≡ Get n ks → (c : ℕ) → said a ≡ ok c → c ≡ length (found (st .rows) n ks) → said a ≡ (act p R st q) .reply
+module _ (p : Profile) (R : ℕ) (b : Books) (q : Request) (a : Answer) where
+  get-answered : (n : Name) (ks : List Value) → q ≡ Get n ks → (c : ℕ) → said a ≡ ok c → c ≡ length (found (b .store .rows) n ks) → said a ≡ (act p R b q) .reply
   unfolding act
   get-answered n ks e c h k = h ∙ ap ok k ∙ rw e
 
-  lookup-answered : (n : Name) (i : ℕ) (vs : List Value) → q ≡ Lookup n i vs → said a ≡ (lookup st n i vs) .reply → said a ≡ (act p R st q) .reply
+  lookup-answered : (n : Name) (i : ℕ) (vs : List Value) → q ≡ Lookup n i vs → said a ≡ (lookup (b .store) n i vs) .reply → said a ≡ (act p R b q) .reply
   unfolding act
   lookup-answered n i vs e h = h ∙ rw e
 
-  scan-answered : (n : Name) → q ≡ Scan n → (x : Span) → Spans (st .rows) n x → said a ≡ ok (x .to - x .from) → said a ≡ (act p R st q) .reply
+  scan-answered : (n : Name) → q ≡ Scan n → (x : Span) → Spans (b .store .rows) n x → said a ≡ ok (x .to - x .from) → said a ≡ (act p R b q) .reply
   unfolding act
   scan-answered n e x s h =
-      let l : x .to - x .from ≡ length (rowsOf (st .rows) n) =
+      let l : x .to - x .from ≡ length (rowsOf (b .store .rows) n) =
       rw (s .are) (simp (length-take, length-drop) (omega (arith, s .start, s .inside)))
       in
-      h ∙ ap ok (l ∙ sym (length-map (rowsOf (st .rows) n) (λ (r : Row). r .cells))) ∙ rw e
+      h ∙ ap ok (l ∙ sym (length-map (rowsOf (b .store .rows) n) (λ (r : Row). r .cells))) ∙ rw e
 
-  pub names-answered : q ≡ Names → (c : ℕ) → said a ≡ ok c → c ≡ length (st .tables) → said a ≡ (act p R st q) .reply
+  pub names-answered : q ≡ Names → (c : ℕ) → said a ≡ ok c → c ≡ length (b .store .tables) → said a ≡ (act p R b q) .reply
   unfolding act
-  names-answered e c h k = h ∙ ap ok (k ∙ sym (length-map (st .tables) (λ (t : Table). text (t .name) ∷ []))) ∙ rw e
+  names-answered e c h k = h ∙ ap ok (k ∙ sym (length-map (b .store .tables) (λ (t : Table). text (t .name) ∷ []))) ∙ rw e
 
 -- ---- what stands behind a name, where nothing broke
 
@@ -120,12 +125,12 @@ module _ (s : List ℕ) (from : ℕ) (nm : ReadName) (e : NameRead s from nm) wh
   scan-unbroken x h g = unnamed s from nm e _ x h g
 
   module _ (t : Text) (q : ℕ) (h : nm ≡ Named t q) where
-    module _ (p : Profile) (R : ℕ) (st : State) (a : Answer) where
-      pub get-told : isGot (keysAt s Get from) ≡ true → (c count : ℕ) → count ≡ getD s q 0 → c ≡ length (found (st .rows) (textBytes t) (valuesFrom s count (q + 1))) → said a ≡ ok c
-          → said a ≡ (act p R st (gotOr Names (keysAt s Get from))) .reply
+    module _ (p : Profile) (R : ℕ) (b : Books) (a : Answer) where
+      pub get-told : isGot (keysAt s Get from) ≡ true → (c count : ℕ) → count ≡ getD s q 0 → c ≡ length (found (b .store .rows) (textBytes t) (valuesFrom s count (q + 1))) → said a ≡ ok c
+          → said a ≡ (act p R b (gotOr Names (keysAt s Get from))) .reply
       get-told g c count ec k i =
           let ks = valuesFrom s count (q + 1) in
-          get-answered p R st (gotOr Names (keysAt s Get from)) a (textBytes t) ks (keys-read s from nm e t q h Get g count ec) c i k
+          get-answered p R b (gotOr Names (keysAt s Get from)) a (textBytes t) ks (keys-read s from nm e t q h Get g count ec) c i k
 
     -- a table, a column number and values
     module _ (g : isGot (lookupAt s from) ≡ true) where
@@ -157,18 +162,18 @@ module _ (s : List ℕ) (from : ℕ) (nm : ReadName) (e : NameRead s from nm) wh
       pub lookup-is : gotOr Names (lookupAt s from) ≡ Lookup (textBytes t) (getD s q 0) (valuesFrom s (getD s (q + 1) 0) (q + 2))
       lookup-is = lookup-told .1
 
-      pub lookup-says : (p : Profile) (R : ℕ) (st : State) (a : Answer) (i count : ℕ) → i ≡ getD s q 0 → count ≡ getD s (q + 1) 0
-          → said a ≡ (lookup st (textBytes t) i (valuesFrom s count (q + 2))) .reply → said a ≡ (act p R st (gotOr Names (lookupAt s from))) .reply
-      lookup-says p R st a i count ei ec e = lookup-answered p R st (gotOr Names (lookupAt s from)) a (textBytes t) (getD s q 0) (valuesFrom s (getD s (q + 1) 0) (q + 2)) lookup-is (rw (ei, ec) at e)
+      pub lookup-says : (p : Profile) (R : ℕ) (b : Books) (a : Answer) (i count : ℕ) → i ≡ getD s q 0 → count ≡ getD s (q + 1) 0
+          → said a ≡ (lookup (b .store) (textBytes t) i (valuesFrom s count (q + 2))) .reply → said a ≡ (act p R b (gotOr Names (lookupAt s from))) .reply
+      lookup-says p R b a i count ei ec e = lookup-answered p R b (gotOr Names (lookupAt s from)) a (textBytes t) (getD s q 0) (valuesFrom s (getD s (q + 1) 0) (q + 2)) lookup-is (rw (ei, ec) at e)
 
     -- a table
     scan-is : gotOr Names (scanAt s from) ≡ Scan (textBytes t)
     unfolding scanAt
     scan-is = got-gives Names (scanAt s from) (Scan (textBytes t)) q (named-then s from nm e (λ name a. got (Scan name) a) t q h)
 
-    pub scan-says : (p : Profile) (R : ℕ) (st : State) (a : Answer) (x : Span) → Spans (st .rows) (textBytes t) x → said a ≡ ok (x .to - x .from)
-        → said a ≡ (act p R st (gotOr Names (scanAt s from))) .reply
-    scan-says p R st a x g e = scan-answered p R st (gotOr Names (scanAt s from)) a (textBytes t) scan-is x g e
+    pub scan-says : (p : Profile) (R : ℕ) (b : Books) (a : Answer) (x : Span) → Spans (b .store .rows) (textBytes t) x → said a ≡ ok (x .to - x .from)
+        → said a ≡ (act p R b (gotOr Names (scanAt s from))) .reply
+    scan-says p R b a x g e = scan-answered p R b (gotOr Names (scanAt s from)) a (textBytes t) scan-is x g e
 
 -- the count of tables is theirs
 pub tables-counted : (p : Profile) (R : ℕ) (s : List ℕ) → countAt tablesCount 1 s ≡ length ((parse p R s) .tables)
@@ -214,20 +219,52 @@ module _ (s : List ℕ) (p : Profile) (k from : ℕ) where
   unfolding operandsAt
   is-names e = rw e
 
-  -- a reading that did not break says one of the nine
+  pub is-open : k ≡ 12 → operandsAt s p k from ≡ got Open from
+  unfolding operandsAt
+  is-open e = rw e
+
+  pub is-keep : k ≡ 13 → operandsAt s p k from ≡ got Keep from
+  unfolding operandsAt
+  is-keep e = rw e
+
+  pub is-back : k ≡ 14 → operandsAt s p k from ≡ got Back from
+  unfolding operandsAt
+  is-back e = rw e
+
+  -- a reading that did not break says one of the twelve
   is-known : isGot (operandsAt s p k from) ≡ true → (k ≡ 1 → ⊥) → (k ≡ 2 → ⊥) → (k ≡ 3 → ⊥) → (k ≡ 4 → ⊥) → (k ≡ 5 → ⊥)
-      → (k ≡ 6 → ⊥) → (k ≡ 7 → ⊥) → (k ≡ 8 → ⊥) → (k ≡ 9 → ⊥) → ⊥
+      → (k ≡ 6 → ⊥) → (k ≡ 7 → ⊥) → (k ≡ 8 → ⊥) → (k ≡ 9 → ⊥) → (k ≡ 12 → ⊥) → (k ≡ 13 → ⊥) → (k ≡ 14 → ⊥) → ⊥
   unfolding walkedAs
-  is-known h a b c d e f g i j =
+  is-known h a b c d e f g i j l m n =
       let w = was-got (operandsAt s p k from) h in
-      let u = unknown s p k from a b c d e f g i j ∙ ap walkedAs (w .is) in
+      let u = unknown s p k from a b c d e f g i j l m n ∙ ap walkedAs (w .is) in
       let z : _≡_ {A = ℕ} 0 1 = cc in omega arith
 
-  pub reads-known : isGot (operandsAt s p k from) ≡ true → 5 < k → (k ≡ 6 → ⊥) → (k ≡ 7 → ⊥) → (k ≡ 8 → ⊥) → (k ≡ 9 → ⊥) → ⊥
-  reads-known h l f g i j = is-known h (omega arith) (omega arith) (omega arith) (omega arith) (omega arith) f g i j
+  pub reads-known : isGot (operandsAt s p k from) ≡ true → reads k ≡ true → (k ≡ 6 → ⊥) → (k ≡ 7 → ⊥) → (k ≡ 8 → ⊥) → (k ≡ 9 → ⊥) → ⊥
+  reads-known h r f g i j =
+      let l = reads-range k r in
+      let low : 5 < k = l .0 in
+      let high : k < 10 = l .1 in
+      is-known h (omega arith) (omega arith) (omega arith) (omega arith) (omega arith) f g i j (omega arith) (omega arith) (omega arith)
 
-  pub writes-known : isGot (operandsAt s p k from) ≡ true → k < 6 → (k ≡ 1 → ⊥) → (k ≡ 2 → ⊥) → (k ≡ 3 → ⊥) → (k ≡ 4 → ⊥) → (k ≡ 5 → ⊥) → ⊥
-  writes-known h l a b c d e = is-known h a b c d e (omega arith) (omega arith) (omega arith) (omega arith)
+  -- it is none of the four that read
+  not-read : reads k ≡ false → (5 < k) → (k < 10) → ⊥
+  unfolding reads
+  not-read r l h = true≢false (sym (and-both (lt-ltb 5 k l) (lt-ltb k 10 h)) ∙ r)
+
+  pub writes-known : isGot (operandsAt s p k from) ≡ true → reads k ≡ false → (k ≡ 1 → ⊥) → (k ≡ 2 → ⊥) → (k ≡ 3 → ⊥) → (k ≡ 4 → ⊥) → (k ≡ 5 → ⊥)
+      → (k ≡ 12 → ⊥) → (k ≡ 13 → ⊥) → (k ≡ 14 → ⊥) → ⊥
+  writes-known h r a b c d e l m n =
+      is-known h a b c d e (λ q. not-read r (omega arith) (omega arith)) (λ q. not-read r (omega arith) (omega arith)) (λ q. not-read r (omega arith) (omega arith)) (λ q. not-read r (omega arith) (omega arith)) l m n
+
+-- whether it reads, as the code asks
+pub read-high : (k : ℕ) → 5 < k → ltb k 10 ≡ reads k
+unfolding reads
+read-high k l = rw (lt-ltb 5 k l) refl
+
+pub read-low : (k : ℕ) → k ≤ 5 → ltb 5 k ≡ reads k
+unfolding reads
+read-low k l = rw (le-ltb 5 k l) refl
 
 -- the same reading, said otherwise
 pub got-as : {v w : Read Request} → v ≡ w → isGot v ≡ true → isGot w ≡ true
@@ -235,7 +272,7 @@ got-as e h = rw e at h
 
 module _ (p : Profile) (R : ℕ) (s : List ℕ) (a : Answer) {v w : Read Request} (e : v ≡ w) where
   pub replied-as : Replied p R w s a → Replied p R v s a
-  replied-as h = rw e h
+  replied-as h x = rw e (h x)
 
-  pub acted-as : (t : List ℕ) → Acted p R w s t a → Acted p R v s t a
-  acted-as t h = rw e h
+pub acted-as : {p : Profile} {R : ℕ} {s j s₁ j₁ : List ℕ} {a : Answer} {v w : Read Request} → v ≡ w → Acted p R w s j s₁ j₁ a → Acted p R v s j s₁ j₁ a
+acted-as {p} {R} {s} {j} {s₁} {j₁} {a} e h = subst (λ (x : Read Request). Acted p R x s j s₁ j₁ a) (sym e) h

@@ -17,17 +17,18 @@ use Rattle.rules.specs.declared.answer.Answer.{Answer}
 use Rattle.rules.specs.declared.answer.Refusal.the-variants.{UnknownTable, MapColumn}
 use Rattle.rules.specs.declared.answer.Refusal.{Refusal}
 use Rattle.rules.specs.declared.profile.Profile.{Profile}
-use Rattle.rules.specs.Layout.{parse}
 use Rattle.rules.specs.Request.{Request, Insert, Names, said, no}
 use Rattle.rules.specs.Rows.{badMap, fillsFault, fullRow}
 use Rattle.rules.specs.Schema.{first, at}
-use Rattle.rules.specs.State.{Name, Table, State, isNamed, tableNamed}
+use Rattle.rules.specs.State.{Name, Table, isNamed, tableNamed}
 use Rattle.rules.specs.Step.{Outcome, refused, inTurn, insertRow, insert, act}
 use Rattle.laid.specs.Catalog.{placeOf}
 use Rattle.laid.specs.Row.{tableIn}
-use Rattle.laid.specs.Store.{Store, Stored}
+use Rattle.rules.specs.Journal.{Books}
+use Rattle.rules.specs.Pages.{booksOf}
+use Rattle.journal.specs.Books.{Booked, Settled}
 use Rattle.laid.proofs.Finding.{place-missing}
-use Rattle.store.proofs.Outcomes.{unchanged}
+use Rattle.store.proofs.Settling.{left-alone}
 use Rattle.mapping.specs.Got.{isGot, gotOr}
 use Rattle.mapping.specs.Mapped.{rowsAt}
 use Rattle.records.specs.Reading.{times, byteAt}
@@ -141,50 +142,50 @@ module _ (rec : List ℕ) (at : ℕ) (g : isGot (insertAt rec at) ≡ true) wher
 
 -- ---- what it comes to
 
-module _ (p : Profile) (R : ℕ) (st : State) (n : Name) (m : Option (List ℕ)) (rows : List (List Value)) where
-  insert-unknown : tableNamed (st .tables) n ≡ none → act p R st (Insert n m rows) ≡ refused (no UnknownTable 0)
+module _ (p : Profile) (R : ℕ) (b : Books) (n : Name) (m : Option (List ℕ)) (rows : List (List Value)) where
+  insert-unknown : tableNamed (b .store .tables) n ≡ none → act p R b (Insert n m rows) ≡ refused (no UnknownTable 0)
   unfolding act insert maybe
   insert-unknown e = rw e
 
-  module _ (t : Table) (e : tableNamed (st .tables) n ≡ some t) where
-    insert-bad : badMap (length (t .columns)) m ≡ true → act p R st (Insert n m rows) ≡ refused (no MapColumn 0)
+  module _ (t : Table) (e : tableNamed (b .store .tables) n ≡ some t) where
+    insert-bad : badMap (length (t .columns)) m ≡ true → act p R b (Insert n m rows) ≡ refused (no MapColumn 0)
     unfolding act insert maybe first at _orElse_
-    insert-bad b = rw (e, b)
+    insert-bad k = rw (e, k)
 
-    module _ (b : badMap (length (t .columns)) m ≡ false) where
-      insert-faulty : (x : Refusal × ℕ) → fillsFault t m 0 rows ≡ some x → act p R st (Insert n m rows) ≡ refused (no (x .0) (x .1))
+    module _ (k : badMap (length (t .columns)) m ≡ false) where
+      insert-faulty : (x : Refusal × ℕ) → fillsFault t m 0 rows ≡ some x → act p R b (Insert n m rows) ≡ refused (no (x .0) (x .1))
       unfolding act insert maybe first at _orElse_
-      insert-faulty x f = rw (e, b, f)
+      insert-faulty x f = rw (e, k, f)
 
-      insert-goes : fillsFault t m 0 rows ≡ none → act p R st (Insert n m rows) ≡ inTurn (insertRow p R t) st 0 (map (fullRow t m) rows)
+      insert-goes : fillsFault t m 0 rows ≡ none → act p R b (Insert n m rows) ≡ inTurn (insertRow p R t) b 0 (map (fullRow t m) rows)
       unfolding act insert maybe first at _orElse_
-      insert-goes f = rw (e, b, f)
+      insert-goes f = rw (e, k, f)
 
-module _ (p : Profile) (R : ℕ) (s : List ℕ) (b : Store p R s) (n : Name) (q : Read Request) (m : Option (List ℕ)) (rows : List (List Value))
+module _ {p : Profile} {R : ℕ} {s j : List ℕ} (b : Booked p R s j) (n : Name) (q : Read Request) (m : Option (List ℕ)) (rows : List (List Value))
     (eq : gotOr Names q ≡ Insert n m rows) where
-  abbrev st : State
-  st = parse p R s
+  abbrev bk : Books
+  bk = booksOf p R s j
 
   -- it is refused, and nothing is changed
-  kept : (x : Refusal) (i : ℕ) → act p R st (Insert n m rows) ≡ refused (no x i) → (a : Answer) → said a ≡ no x i → Acted p R q s s a
-  kept x i e a h = unchanged p R s b (act p R st (gotOr Names q)) (no x i) (ap (act p R st) eq ∙ e) a h
+  kept : (x : Refusal) (i : ℕ) → act p R bk (Insert n m rows) ≡ refused (no x i) → (a : Answer) → said a ≡ no x i → Acted p R q s j s j a
+  kept x i e a h = left-alone b (act p R bk (gotOr Names q)) (no x i) (ap (act p R bk) eq ∙ e) a h
 
   -- no table has the name
-  pub acted-unknown : none ≡ placeOf (isNamed n) (st .tables) → (a : Answer) → said a ≡ no UnknownTable 0 → Acted p R q s s a
-  acted-unknown f = kept UnknownTable 0 (insert-unknown p R st n m rows (place-missing (isNamed n) (st .tables) (sym f)))
+  pub acted-unknown : none ≡ placeOf (isNamed n) (bk .store .tables) → (a : Answer) → said a ≡ no UnknownTable 0 → Acted p R q s j s j a
+  acted-unknown f = kept UnknownTable 0 (insert-unknown p R bk n m rows (place-missing (isNamed n) (bk .store .tables) (sym f)))
 
   -- the table at place t has it
-  module _ (t : ℕ) (f : some t ≡ placeOf (isNamed n) (st .tables)) where
+  module _ (t : ℕ) (f : some t ≡ placeOf (isNamed n) (bk .store .tables)) where
     abbrev T : Table
     T = tableIn p R s t
 
-    pub acted-bad : badMap (length (T .columns)) m ≡ true → (a : Answer) → said a ≡ no MapColumn 0 → Acted p R q s s a
-    acted-bad k = kept MapColumn 0 (insert-bad p R st n m rows T (named-its p R s b n t f) k)
+    pub acted-bad : badMap (length (T .columns)) m ≡ true → (a : Answer) → said a ≡ no MapColumn 0 → Acted p R q s j s j a
+    acted-bad k = kept MapColumn 0 (insert-bad p R bk n m rows T (named-its p R s (b .store) n t f) k)
 
     module _ (k : badMap (length (T .columns)) m ≡ false) where
-      pub acted-faulty : (x : Refusal) (i : ℕ) → fillsFault T m 0 rows ≡ some (x, i) → (a : Answer) → said a ≡ no x i → Acted p R q s s a
-      acted-faulty x i e = kept x i (insert-faulty p R st n m rows T (named-its p R s b n t f) k (x, i) e)
+      pub acted-faulty : (x : Refusal) (i : ℕ) → fillsFault T m 0 rows ≡ some (x, i) → (a : Answer) → said a ≡ no x i → Acted p R q s j s j a
+      acted-faulty x i e = kept x i (insert-faulty p R bk n m rows T (named-its p R s (b .store) n t f) k (x, i) e)
 
-      pub acted-rows : fillsFault T m 0 rows ≡ none → (s₁ : List ℕ) (a : Answer) → Stored p R (inTurn (insertRow p R T) st 0 (map (fullRow T m) rows)) s s₁ a → Acted p R q s s₁ a
-      acted-rows e s₁ a h =
-          subst (λ (o : Outcome). Stored p R o s s₁ a) (sym (ap (act p R st) eq ∙ insert-goes p R st n m rows T (named-its p R s b n t f) k e)) h
+      pub acted-rows : fillsFault T m 0 rows ≡ none → {s₁ j₁ : List ℕ} {a : Answer} → Settled p R (inTurn (insertRow p R T) bk 0 (map (fullRow T m) rows)) s j s₁ j₁ a → Acted p R q s j s₁ j₁ a
+      acted-rows e {s₁} {j₁} {a} h =
+          subst (λ (o : Outcome). Settled p R o s j s₁ j₁ a) (sym (ap (act p R bk) eq ∙ insert-goes p R bk n m rows T (named-its p R s (b .store) n t f) k e)) h

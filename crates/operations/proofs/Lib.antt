@@ -1,3 +1,5 @@
+pub mod Shut
+pub mod Batching
 pub mod InTurn
 pub mod FullRows
 pub mod Naming

@@ -18,8 +18,8 @@ use Rattle.rules.specs.Refusal.{numberOf}
 use Rattle.rules.specs.Request.{Pair, Request, Drop, Update, Delete, Names, said, no}
 use Rattle.rules.specs.Rows.{risingFault, sizeFault}
 use Rattle.rules.specs.Schema as Schema
-use Rattle.rules.specs.State.{Name, Table, State, tableNamed, isNamed}
-use Rattle.rules.specs.Step.{refused, act, drop, delete, update, pair, inTurn}
+use Rattle.rules.specs.State.{Name, Table, tableNamed, isNamed}
+use Rattle.rules.specs.Step.{refused, act, drop, delete, update, pair, inTurn, outside}
 use Rattle.rules.specs.declared.answer.Answer.{Answer}
 use Rattle.rules.specs.declared.answer.Refusal.{Refusal}
 use Rattle.rules.specs.declared.answer.Refusal.the-variants.{UnknownTable}
@@ -28,10 +28,12 @@ use Rattle.laid.specs.Catalog.{placeOf}
 use Rattle.checks.specs.Faults.{faultOf}
 use Rattle.checks.specs.Keys.{valuesFrom}
 use Rattle.laid.specs.Row.{tableIn}
-use Rattle.laid.specs.Store.{Store, Stored}
+use Rattle.rules.specs.Journal.{Books}
+use Rattle.rules.specs.Pages.{booksOf}
+use Rattle.journal.specs.Books.{Booked, Settled}
 use Rattle.checks.specs.declared.schema_fault.Fault.{Fault}
 use Rattle.laid.proofs.Finding.{place-missing}
-use Rattle.store.proofs.Outcomes.{unchanged}
+use Rattle.store.proofs.Settling.{left-alone}
 use Rattle.mapping.specs.Got.{isGot, gotOr}
 use Rattle.mapping.specs.Mapped.{pairsAt}
 use Rattle.records.specs.Reading.{andThen, times, byteAt, byteFrom}
@@ -130,18 +132,18 @@ module _ (s : List ℕ) (at : ℕ) (r : ReadName) (e : NameRead s at r) where
             (update-then ∙ then-is (byteAt s n) listed c (n + 1) counted ∙ then-is (times (pairAt s) c (n + 1)) (λ qs b. got (Update (textBytes t) qs) b) (w .what) (w .end) (w .is))
             ∙ ap (Update (textBytes t)) (sym (got-gives [] (times (pairAt s) c (n + 1)) (w .what) (w .end) (w .is)))
 
--- ---- what the store did is what the request asks
+-- ---- what was done is what the request asks
 
-module _ (p : Profile) (R : ℕ) (before after : List ℕ) (a : Answer) (w : Read Request) (n : Name) where
-  pub drop-acted : (x : Bool) → gotOr Names w ≡ Drop n x → Stored p R (drop (parse p R before) n x) before after a → Acted p R w before after a
+module _ {p : Profile} {R : ℕ} {s j s₁ j₁ : List ℕ} {a : Answer} (w : Read Request) (n : Name) where
+  pub drop-acted : (x : Bool) → gotOr Names w ≡ Drop n x → Settled p R (outside (booksOf p R s j) (drop (parse p R s) n x)) s j s₁ j₁ a → Acted p R w s j s₁ j₁ a
   unfolding act
   drop-acted x e h = rw e h
 
-  pub delete-acted : (ks : List Value) → gotOr Names w ≡ Delete n ks → Stored p R (delete (parse p R before) n ks) before after a → Acted p R w before after a
+  pub delete-acted : (ks : List Value) → gotOr Names w ≡ Delete n ks → Settled p R (delete (booksOf p R s j) n ks) s j s₁ j₁ a → Acted p R w s j s₁ j₁ a
   unfolding act
   delete-acted ks e h = rw e h
 
-  pub update-acted : (qs : List Pair) → gotOr Names w ≡ Update n qs → Stored p R (update p R (parse p R before) n qs) before after a → Acted p R w before after a
+  pub update-acted : (qs : List Pair) → gotOr Names w ≡ Update n qs → Settled p R (update p R (booksOf p R s j) n qs) s j s₁ j₁ a → Acted p R w s j s₁ j₁ a
   unfolding act
   update-acted qs e h = rw e h
 
@@ -155,47 +157,47 @@ module _ (f : Fault) (o : Schema.Fault) (e : faultOf f ≡ o) (b : Bool) (eb : b
   pub fault-none : b ≡ true → o ≡ none
   fault-none h = sym e ∙ ap (λ (x : Bool). cond x none (some (f .kind, f .at))) (sym eb ∙ h)
 
-module _ (p : Profile) (R : ℕ) (st : State) (n : Name) (qs : List Pair) where
-  update-unknown : tableNamed (st .tables) n ≡ none → update p R st n qs ≡ refused (no UnknownTable 0)
+module _ (p : Profile) (R : ℕ) (b : Books) (n : Name) (qs : List Pair) where
+  update-unknown : tableNamed (b .store .tables) n ≡ none → update p R b n qs ≡ refused (no UnknownTable 0)
   unfolding update maybe
   update-unknown f = rw f
 
-  module _ (t : Table) (f : tableNamed (st .tables) n ≡ some t) where
-    update-falls : (k : Refusal) (i : ℕ) → risingFault 0 qs ≡ some (k, i) → update p R st n qs ≡ refused (no k i)
+  module _ (t : Table) (f : tableNamed (b .store .tables) n ≡ some t) where
+    update-falls : (k : Refusal) (i : ℕ) → risingFault 0 qs ≡ some (k, i) → update p R b n qs ≡ refused (no k i)
     unfolding update maybe _orElse_
     update-falls k i e = rw (f, e)
 
     module _ (e : risingFault 0 qs ≡ none) where
-      update-sizes : (k : Refusal) (i : ℕ) → sizeFault t 0 qs ≡ some (k, i) → update p R st n qs ≡ refused (no k i)
+      update-sizes : (k : Refusal) (i : ℕ) → sizeFault t 0 qs ≡ some (k, i) → update p R b n qs ≡ refused (no k i)
       unfolding update maybe _orElse_
       update-sizes k i g = rw (f, e, g)
 
-      update-goes : sizeFault t 0 qs ≡ none → update p R st n qs ≡ inTurn (pair p R t) st 0 qs
+      update-goes : sizeFault t 0 qs ≡ none → update p R b n qs ≡ inTurn (pair p R t) b 0 qs
       unfolding update maybe _orElse_
       update-goes g = rw (f, e, g)
 
-module _ (p : Profile) (R : ℕ) (s : List ℕ) (b : Store p R s) (n : Name) (qs : List Pair) where
-  abbrev before : State
-  before = parse p R s
+module _ {p : Profile} {R : ℕ} {s j : List ℕ} (b : Booked p R s j) (n : Name) (qs : List Pair) where
+  abbrev before : Books
+  before = booksOf p R s j
 
   -- it is refused, and nothing is changed
-  kept : (k : Refusal) (i : ℕ) → update p R before n qs ≡ refused (no k i) → (a : Answer) → said a ≡ no k i → Stored p R (update p R before n qs) s s a
-  kept k i e a h = unchanged p R s b (update p R before n qs) (no k i) e a h
+  kept : (k : Refusal) (i : ℕ) → update p R before n qs ≡ refused (no k i) → (a : Answer) → said a ≡ no k i → Settled p R (update p R before n qs) s j s j a
+  kept k i e a h = left-alone b (update p R before n qs) (no k i) e a h
 
-  pub update-missed : none ≡ placeOf (isNamed n) (before .tables) → (a : Answer) → said a ≡ no UnknownTable 0 → Stored p R (update p R before n qs) s s a
-  update-missed f = kept UnknownTable 0 (update-unknown p R before n qs (place-missing (isNamed n) (before .tables) (sym f)))
+  pub update-missed : none ≡ placeOf (isNamed n) (before .store .tables) → (a : Answer) → said a ≡ no UnknownTable 0 → Settled p R (update p R before n qs) s j s j a
+  update-missed f = kept UnknownTable 0 (update-unknown p R before n qs (place-missing (isNamed n) (before .store .tables) (sym f)))
 
-  module _ (t : ℕ) (f : some t ≡ placeOf (isNamed n) (before .tables)) where
+  module _ (t : ℕ) (f : some t ≡ placeOf (isNamed n) (before .store .tables)) where
     abbrev T : Table
     T = tableIn p R s t
 
-    pub update-not-rising : (k : Refusal) (i : ℕ) → risingFault 0 qs ≡ some (k, i) → (a : Answer) → said a ≡ no k i → Stored p R (update p R before n qs) s s a
-    update-not-rising k i e = kept k i (update-falls p R before n qs T (named-its p R s b n t f) k i e)
+    pub update-not-rising : (k : Refusal) (i : ℕ) → risingFault 0 qs ≡ some (k, i) → (a : Answer) → said a ≡ no k i → Settled p R (update p R before n qs) s j s j a
+    update-not-rising k i e = kept k i (update-falls p R before n qs T (named-its p R s (b .store) n t f) k i e)
 
     module _ (e : risingFault 0 qs ≡ none) where
-      pub update-not-sized : (k : Refusal) (i : ℕ) → sizeFault T 0 qs ≡ some (k, i) → (a : Answer) → said a ≡ no k i → Stored p R (update p R before n qs) s s a
-      update-not-sized k i g = kept k i (update-sizes p R before n qs T (named-its p R s b n t f) e k i g)
+      pub update-not-sized : (k : Refusal) (i : ℕ) → sizeFault T 0 qs ≡ some (k, i) → (a : Answer) → said a ≡ no k i → Settled p R (update p R before n qs) s j s j a
+      update-not-sized k i g = kept k i (update-sizes p R before n qs T (named-its p R s (b .store) n t f) e k i g)
 
-      pub update-in-turn : sizeFault T 0 qs ≡ none → (after : List ℕ) (a : Answer) → Stored p R (inTurn (pair p R T) before 0 qs) s after a
-          → Stored p R (update p R before n qs) s after a
-      update-in-turn g after a h = rw (update-goes p R before n qs T (named-its p R s b n t f) e g) h
+      pub update-in-turn : sizeFault T 0 qs ≡ none → {s₁ j₁ : List ℕ} {a : Answer} → Settled p R (inTurn (pair p R T) before 0 qs) s j s₁ j₁ a
+          → Settled p R (update p R before n qs) s j s₁ j₁ a
+      update-in-turn g h = rw (update-goes p R before n qs T (named-its p R s (b .store) n t f) e g) h

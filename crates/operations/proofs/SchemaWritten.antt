@@ -2,7 +2,7 @@
 use mathlib.Core.Path.{_≡_, refl, sym, ap, _∙_, subst}
 use Prim.Native.Nat.{ℕ, zero, suc, _+_, _-_, _*_, _/_, _%_, _≤_, _<_}
 use native.Mathlib.Omega.{arith}
-use mathlib.Core.Bool.{true, false, true≢false}
+use mathlib.Core.Bool.{true, false, not, true≢false}
 use mathlib.Core.List.{List, [], _∷_, _++_, map, append-assoc, append-nil, map-append}
 use mathlib.Core.Option.{Option, none, some}
 use lib.Dec.{eqb}
@@ -26,16 +26,20 @@ use Rattle.values.proofs.Cells.{null-zeros}
 use Rattle.areas.proofs.Nest.{put-next, set-next}
 use Rattle.rules.specs.declared.profile.Profile.{Profile}
 use Rattle.rules.specs.Profile.{columnWidth, schemaWidth}
-use Rattle.rules.specs.Request.{Request, Create, Names, enteredColumn, enteredTable}
+use Rattle.rules.specs.Request.{Request, Create, Names, enteredColumn, enteredTable, said, no}
 use Rattle.rules.specs.Readable.{readable}
-use Rattle.rules.specs.Step.{create, act}
+use Rattle.rules.specs.Step.{create, act, outside}
+use Rattle.rules.specs.Pages.{booksOf}
+use Rattle.rules.specs.declared.answer.Refusal.the-variants.{InsideBatch}
+use Rattle.journal.specs.Books.{Booked, Settled}
+use Rattle.operations.proofs.Shut.{inside-refused}
 use Rattle.rules.specs.declared.answer.Answer.{Answer}
 use Rattle.rules.specs.Sound.{goodColumn, goodTable}
 use Rattle.rules.proofs.Trip.{column-good, column-long, table-good, table-back}
 use Rattle.rules.proofs.Widths.{column-within}
 use Rattle.rules.specs.State.{Column, Table}
 use Rattle.rules.specs.Layout.{one, flags, columnRecord, tableRecord, readTable, parse, bit}
-use Rattle.laid.specs.Store.{Coded, Stored}
+use Rattle.laid.specs.Store.{Coded}
 use Rattle.laid.specs.Catalog.{TableBytes}
 use Rattle.laid.proofs.Stores.{table-bytes}
 use Rattle.changes.proofs.Writing.{name-long, cell-wide}
@@ -572,12 +576,20 @@ module _ (p : Profile) (coded : Coded p) (s : List ℕ) (at : ℕ) (g : CreateGo
   pub create-long : length y ≡ schemaWidth p
   create-long = create-bytes .long
 
-  pub create-acts : (R : ℕ) (before after : List ℕ) (a : Answer) → Stored p R (create p (parse p R before) (readTable p y)) before after a → Acted p R (createAt s p at) before after a
+  pub create-acts : {R : ℕ} {b j s₁ j₁ : List ℕ} {a : Answer} → Settled p R (outside (booksOf p R b j) (create p (parse p R b) (readTable p y))) b j s₁ j₁ a
+      → Acted p R (createAt s p at) b j s₁ j₁ a
   unfolding act gotOr
-  create-acts R before after a h =
+  create-acts {R} {b} {j} {s₁} {j₁} {a} h =
       let e : readTable p y ≡ g .table = ap (readTable p) record-is ∙ table-back p (coded .known .cell) (g .table) (table-good p (g .table) (g .good)) in
-      subst (λ (w : Read Request). Stored p R (act p R (parse p R before) (gotOr Names w)) before after a) (sym (g .is))
-      (subst (λ (t : Table). Stored p R (create p (parse p R before) t) before after a) e h)
+      subst (λ (w : Read Request). Settled p R (act p R (booksOf p R b j) (gotOr Names w)) b j s₁ j₁ a) (sym (g .is))
+      (subst (λ (t : Table). Settled p R (outside (booksOf p R b j) (create p (parse p R b) t)) b j s₁ j₁ a) e h)
+
+-- 44
+pub create-inside : {p : Profile} {R : ℕ} {s : List ℕ} {at : ℕ} → CreateGot s p at → {b j : List ℕ} {a : Answer} → Booked p R b j → not (eqb (getD j 0 0) 0) ≡ true
+    → said a ≡ no InsideBatch 0 → Acted p R (createAt s p at) b j b j a
+unfolding act gotOr
+create-inside {p} {R} g {b} {j} {a} bk h e =
+    subst (λ (w : Read Request). Settled p R (act p R (booksOf p R b j) (gotOr Names w)) b j b j a) (sym (g .is)) (inside-refused bk (create p (parse p R b) (g .table)) h a e)
 
 -- the room that it is written in
 pub schema-room : (p : Profile) → Coded p → p .columns ≤ 8 → schemaWidth p ≤ 651

@@ -1,2 +1,3 @@
 pub mod Told
 pub mod Created
+pub mod Batched

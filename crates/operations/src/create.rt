@@ -2,20 +2,23 @@
 use forms::read;
 use forms::read::ReadCell;
 use forms::read::ReadName;
+use journal::page;
 use laid::layout;
 use records::record;
+use rules::answer;
 use rules::answer::Answer;
+use rules::answer::Refusal;
 use rules::profile::Profile;
 use store::local;
 use values::cell;
 ghost use mathlib.Core.Path.{_≡_};
 ghost use mathlib.Core.Bool.{true};
-ghost use Prim.Native.Nat.{_≤_};
 ghost use lib.ListN.{length};
 ghost use Rattle.values.specs.Bytes.{zeros};
 ghost use Rattle.rules.specs.Profile.{columnWidth, schemaWidth};
 ghost use Rattle.rules.specs.Layout.{columnRecord, tableRecord};
-ghost use Rattle.laid.specs.Store.{Coded, Store};
+ghost use Rattle.laid.specs.Store.{Coded};
+ghost use Rattle.journal.specs.Books.{Booked};
 ghost use Rattle.records.specs.declared.record.Walked.the-variants.{Ends};
 ghost use Rattle.mapping.specs.Got.{isGot};
 ghost use Rattle.records.specs.Record.{columnAt, createAt};
@@ -84,11 +87,14 @@ fn write_schema(out: &mut [u8], p: Profile, rec: &[u8], at: usize)
     }
 }
 
-// 3; 4 to 18; 19.
-pub fn create(s: &mut [u8], p: Profile, places: usize, rec: &[u8], at: usize) -> Answer
-    requires { ⌜ Store p places (now s) × (p .columns ≤ 8) × (isGot (createAt (now rec) p at) ≡ true) ⌝ }
-    ensures { λ r. ⌜ Acted p places (createAt (now (rec .entry)) p at) (now (s .entry)) (now (s .exit)) r ⌝ }
+// 44; 3; 4 to 18; 19.
+pub fn create(s: &mut [u8], p: Profile, places: usize, j: &[u8], rec: &[u8], at: usize) -> Answer
+    requires { ⌜ Booked p places (now s) (now j) × (isGot (createAt (now rec) p at) ≡ true) ⌝ }
+    ensures { λ r. ⌜ Acted p places (createAt (now (rec .entry)) p at) (now (s .entry)) (now (j .entry)) (now (s .exit)) (now (j .entry)) r ⌝ }
 {
+    if page::is_open(j) {
+        return answer::refused(Refusal::InsideBatch, 0);
+    }
     let mut room = [0u8; 651];
     let width = layout::schema_width(p);
     write_schema(&mut room[0..width], p, rec, at);

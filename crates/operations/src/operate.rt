@@ -1,8 +1,10 @@
 // A request carried out: each operation reads its operands where they stand in the record, and calls the store.
+use super::batch;
 use super::create;
 use forms::read;
 use forms::read::ReadCell;
 use forms::read::ReadName;
+use journal::page;
 use laid::catalog;
 use laid::catalog::Found;
 use laid::layout;
@@ -21,32 +23,37 @@ use store::rows;
 use values::value::Text;
 use walks::walk;
 ghost use mathlib.Core.Path.{_≡_};
-ghost use mathlib.Core.Bool.{true};
+ghost use mathlib.Core.Bool.{true, false};
 ghost use mathlib.Core.List.{map};
 ghost use mathlib.Core.Option.{none};
-ghost use Prim.Native.Nat.{_≤_, _<_};
+ghost use Prim.Native.Nat.{_<_};
 ghost use lib.ListN.{length};
 ghost use Rattle.values.specs.Meaning.{textBytes, Packed};
 ghost use Rattle.rules.specs.Layout.{parse};
+ghost use Rattle.rules.specs.Pages.{booksOf};
 ghost use Rattle.rules.specs.Request.{Delete, Get};
 ghost use Rattle.rules.specs.Rows.{fillsFault, fullRow, sizeFault};
 ghost use Rattle.rules.specs.Step.{inTurn, insertRow, pair, found};
-ghost use Rattle.laid.specs.Store.{LaidStore, Store, Stored};
+ghost use Rattle.laid.specs.Store.{LaidStore};
 ghost use Rattle.laid.specs.Row.{tableIn};
+ghost use Rattle.journal.specs.Books.{Booked, Settled};
 ghost use Rattle.checks.specs.Keys.{valuesFrom};
 ghost use Rattle.records.specs.Reading.{times};
 ghost use Rattle.mapping.specs.Got.{isGot};
 ghost use Rattle.records.specs.Record.{valuesAt, dropAt, insertAt, pairAt, updateAt, keysAt, lookupAt, scanAt, operandsAt, requestOf};
 ghost use Rattle.mapping.specs.Mapped.{mapOf, MapIn, rowsAt, pairsAt};
-ghost use Rattle.operations.specs.Told.{Acted, Replied, outcomeOf};
+ghost use Rattle.operations.specs.Told.{Acted, Replied, reads, outcomeOf};
 
-// 2: name, if-exists byte.
-fn drop(s: &mut [u8], p: Profile, places: usize, rec: &[u8], at: usize) -> Answer
-    requires { ⌜ Store p places (now s) × (isGot (dropAt (now rec) at) ≡ true) ⌝ }
-    ensures { λ r. ⌜ Acted p places (dropAt (now (rec .entry)) at) (now (s .entry)) (now (s .exit)) r ⌝ }
+// 2: name, if-exists byte. 44; 2 unless if-exists, 20.
+fn drop(s: &mut [u8], p: Profile, places: usize, j: &[u8], rec: &[u8], at: usize) -> Answer
+    requires { ⌜ Booked p places (now s) (now j) × (isGot (dropAt (now rec) at) ≡ true) ⌝ }
+    ensures { λ r. ⌜ Acted p places (dropAt (now (rec .entry)) at) (now (s .entry)) (now (j .entry)) (now (s .exit)) (now (j .entry)) r ⌝ }
 {
     match read::name_at(rec, at) {
         ReadName::Named { name, next } => {
+            if page::is_open(j) {
+                return answer::refused(Refusal::InsideBatch, 0);
+            }
             let lenient = record::byte_of(rec, next) == 1;
             local::drop_table(s, p, places, name, lenient)
         }
@@ -59,15 +66,16 @@ fn insert_rows(
     s: &mut [u8],
     p: Profile,
     places: usize,
+    j: &mut [u8],
     t: usize,
     rec: &[u8],
     m: Map,
     at: usize,
     n: usize,
 ) -> Answer
-    requires { ⌜ Store p places (now s) × (p .columns ≤ 8) × (t < length ((parse p places (now s)) .tables)) × MapIn (now rec) m × (isGot (times (valuesAt (now rec)) n at) ≡ true) ⌝ }
+    requires { ⌜ Booked p places (now s) (now j) × (t < length ((parse p places (now s)) .tables)) × MapIn (now rec) m × (isGot (times (valuesAt (now rec)) n at) ≡ true) ⌝ }
     requires { ⌜ fillsFault (tableIn p places (now s) t) (mapOf (now rec) m) 0 (rowsAt (now rec) n at) ≡ none ⌝ }
-    ensures { λ r. ⌜ Stored p places (inTurn (insertRow p places (tableIn p places (now (s .entry)) t)) (parse p places (now (s .entry))) 0 (map (fullRow (tableIn p places (now (s .entry)) t) (mapOf (now (rec .entry)) m)) (rowsAt (now (rec .entry)) n at))) (now (s .entry)) (now (s .exit)) r ⌝ }
+    ensures { λ r. ⌜ Settled p places (inTurn (insertRow p places (tableIn p places (now (s .entry)) t)) (booksOf p places (now (s .entry)) (now (j .entry))) 0 (map (fullRow (tableIn p places (now (s .entry)) t) (mapOf (now (rec .entry)) m)) (rowsAt (now (rec .entry)) n at))) (now (s .entry)) (now (j .entry)) (now (s .exit)) (now (j .exit)) r ⌝ }
 {
     let mut left = n;
     let mut q = at;
@@ -82,7 +90,7 @@ fn insert_rows(
             q + 1,
             count,
         );
-        let a = rows::insert(s, p, places, t, i, row);
+        let a = rows::insert(s, p, places, j, t, i, row);
         let kind = a.kind;
         if !answer::is_accepted(kind) {
             return a;
@@ -102,9 +110,9 @@ fn insert_rows(
 }
 
 // 3: table, map, row count, rows. 2; 24; each row 21, 22, 23; then row by row.
-fn insert(s: &mut [u8], p: Profile, places: usize, rec: &[u8], at: usize) -> Answer
-    requires { ⌜ Store p places (now s) × (p .columns ≤ 8) × (isGot (insertAt (now rec) at) ≡ true) ⌝ }
-    ensures { λ r. ⌜ Acted p places (insertAt (now (rec .entry)) at) (now (s .entry)) (now (s .exit)) r ⌝ }
+fn insert(s: &mut [u8], p: Profile, places: usize, j: &mut [u8], rec: &[u8], at: usize) -> Answer
+    requires { ⌜ Booked p places (now s) (now j) × (isGot (insertAt (now rec) at) ≡ true) ⌝ }
+    ensures { λ r. ⌜ Acted p places (insertAt (now (rec .entry)) at) (now (s .entry)) (now (j .entry)) (now (s .exit)) (now (j .exit)) r ⌝ }
 {
     let ReadName::Named { name, next } = read::name_at(rec, at) else {
         return answer::refused(Refusal::RecordBroken, 0);
@@ -126,7 +134,7 @@ fn insert(s: &mut [u8], p: Profile, places: usize, rec: &[u8], at: usize) -> Ans
     if !answer::is_accepted(kind) {
         return answer::refused(kind, f.at);
     }
-    insert_rows(s, p, places, t, rec, m, q + 1, n)
+    insert_rows(s, p, places, j, t, rec, m, q + 1, n)
 }
 
 // The n pairs from `at` on, pair by pair.
@@ -134,14 +142,15 @@ fn update_pairs(
     s: &mut [u8],
     p: Profile,
     places: usize,
+    j: &mut [u8],
     t: usize,
     rec: &[u8],
     at: usize,
     n: usize,
 ) -> Answer
-    requires { ⌜ Store p places (now s) × (p .columns ≤ 8) × (t < length ((parse p places (now s)) .tables)) × (isGot (times (pairAt (now rec)) n at) ≡ true) ⌝ }
+    requires { ⌜ Booked p places (now s) (now j) × (t < length ((parse p places (now s)) .tables)) × (isGot (times (pairAt (now rec)) n at) ≡ true) ⌝ }
     requires { ⌜ sizeFault (tableIn p places (now s) t) 0 (pairsAt (now rec) n at) ≡ none ⌝ }
-    ensures { λ r. ⌜ Stored p places (inTurn (pair p places (tableIn p places (now (s .entry)) t)) (parse p places (now (s .entry))) 0 (pairsAt (now (rec .entry)) n at)) (now (s .entry)) (now (s .exit)) r ⌝ }
+    ensures { λ r. ⌜ Settled p places (inTurn (pair p places (tableIn p places (now (s .entry)) t)) (booksOf p places (now (s .entry)) (now (j .entry))) 0 (pairsAt (now (rec .entry)) n at)) (now (s .entry)) (now (j .entry)) (now (s .exit)) (now (j .exit)) r ⌝ }
 {
     let mut left = n;
     let mut q = at;
@@ -153,7 +162,7 @@ fn update_pairs(
         let old = cell.value;
         let count = record::byte_of(rec, next) as usize;
         let row = update::read_row(rec, next + 1, count);
-        let a = rows::update(s, p, places, t, i, rec, q, old, row);
+        let a = rows::update(s, p, places, j, t, i, rec, q, old, row);
         let kind = a.kind;
         if !answer::is_accepted(kind) {
             return a;
@@ -169,9 +178,9 @@ fn update_pairs(
 }
 
 // 4: table, pair count, pairs. 2; 35; 25; then pair by pair.
-fn update(s: &mut [u8], p: Profile, places: usize, rec: &[u8], at: usize) -> Answer
-    requires { ⌜ Store p places (now s) × (p .columns ≤ 8) × (isGot (updateAt (now rec) at) ≡ true) ⌝ }
-    ensures { λ r. ⌜ Acted p places (updateAt (now (rec .entry)) at) (now (s .entry)) (now (s .exit)) r ⌝ }
+fn update(s: &mut [u8], p: Profile, places: usize, j: &mut [u8], rec: &[u8], at: usize) -> Answer
+    requires { ⌜ Booked p places (now s) (now j) × (isGot (updateAt (now rec) at) ≡ true) ⌝ }
+    ensures { λ r. ⌜ Acted p places (updateAt (now (rec .entry)) at) (now (s .entry)) (now (j .entry)) (now (s .exit)) (now (j .exit)) r ⌝ }
 {
     let ReadName::Named { name, next } = read::name_at(rec, at) else {
         return answer::refused(Refusal::RecordBroken, 0);
@@ -190,18 +199,18 @@ fn update(s: &mut [u8], p: Profile, places: usize, rec: &[u8], at: usize) -> Ans
     if !answer::is_accepted(l) {
         return answer::refused(l, g.at);
     }
-    update_pairs(s, p, places, t, rec, next + 1, n)
+    update_pairs(s, p, places, j, t, rec, next + 1, n)
 }
 
 // 5: table, keys.
-fn delete(s: &mut [u8], p: Profile, places: usize, rec: &[u8], at: usize) -> Answer
-    requires { ⌜ Store p places (now s) × (isGot (keysAt (now rec) Delete at) ≡ true) ⌝ }
-    ensures { λ r. ⌜ Acted p places (keysAt (now (rec .entry)) Delete at) (now (s .entry)) (now (s .exit)) r ⌝ }
+fn delete(s: &mut [u8], p: Profile, places: usize, j: &mut [u8], rec: &[u8], at: usize) -> Answer
+    requires { ⌜ Booked p places (now s) (now j) × (isGot (keysAt (now rec) Delete at) ≡ true) ⌝ }
+    ensures { λ r. ⌜ Acted p places (keysAt (now (rec .entry)) Delete at) (now (s .entry)) (now (j .entry)) (now (s .exit)) (now (j .exit)) r ⌝ }
 {
     match read::name_at(rec, at) {
         ReadName::Named { name, next } => {
             let count = record::byte_of(rec, next) as usize;
-            rows::delete(s, p, places, name, rec, next + 1, count)
+            rows::delete(s, p, places, j, name, rec, next + 1, count)
         }
         ReadName::Bad(_) => answer::refused(Refusal::RecordBroken, 0),
     }
@@ -284,24 +293,34 @@ fn scan(s: &[u8], p: Profile, places: usize, rec: &[u8], at: usize) -> Answer
     }
 }
 
-// The operations that write; any other is broken.
-pub fn write(s: &mut [u8], p: Profile, places: usize, rec: &[u8], k: u8) -> Answer
-    requires { ⌜ Store p places (now s) × (p .columns ≤ 8) × (k < 6) × (isGot (operandsAt (now rec) p k 2) ≡ true) ⌝ }
-    ensures { λ r. ⌜ Acted p places (operandsAt (now (rec .entry)) p k 2) (now (s .entry)) (now (s .exit)) r ⌝ }
+// The operations that write, and those of a batch; any other is broken.
+pub fn write(s: &mut [u8], p: Profile, places: usize, j: &mut [u8], rec: &[u8], k: u8) -> Answer
+    requires { ⌜ Booked p places (now s) (now j) × (reads k ≡ false) × (isGot (operandsAt (now rec) p k 2) ≡ true) ⌝ }
+    ensures { λ r. ⌜ Acted p places (operandsAt (now (rec .entry)) p k 2) (now (s .entry)) (now (j .entry)) (now (s .exit)) (now (j .exit)) r ⌝ }
 {
     match k {
-        1 => create::create(s, p, places, rec, 2),
-        2 => drop(s, p, places, rec, 2),
-        3 => insert(s, p, places, rec, 2),
-        4 => update(s, p, places, rec, 2),
-        5 => delete(s, p, places, rec, 2),
+        1 => create::create(s, p, places, j, rec, 2),
+        2 => drop(s, p, places, j, rec, 2),
+        3 => insert(s, p, places, j, rec, 2),
+        4 => update(s, p, places, j, rec, 2),
+        5 => delete(s, p, places, j, rec, 2),
+        12 => batch::open(j),
+        13 => batch::keep(j),
+        14 => batch::back(s, p, places, j),
         _ => answer::refused(Refusal::RecordBroken, 0),
     }
 }
 
+// Whether an operation only reads.
+pub fn is_read(k: u8) -> bool
+    ensures { λ r. ⌜ r ≡ reads k ⌝ }
+{
+    5 < k && k < 10
+}
+
 // The operations that read; any other is broken.
 pub fn ask(s: &[u8], p: Profile, places: usize, rec: &[u8], k: u8) -> Answer
-    requires { ⌜ LaidStore p places (now s) × (5 < k) × (isGot (operandsAt (now rec) p k 2) ≡ true) ⌝ }
+    requires { ⌜ LaidStore p places (now s) × (reads k ≡ true) × (isGot (operandsAt (now rec) p k 2) ≡ true) ⌝ }
     ensures { λ r. ⌜ Replied p places (operandsAt (now (rec .entry)) p k 2) (now (s .entry)) r ⌝ }
 {
     match k {
@@ -314,18 +333,18 @@ pub fn ask(s: &[u8], p: Profile, places: usize, rec: &[u8], k: u8) -> Answer
 }
 
 // The request that a record's bytes say, from the version byte on, carried out; a broken record is 1 and changes nothing.
-pub fn execute(s: &mut [u8], p: Profile, places: usize, rec: &[u8]) -> Answer
-    requires { ⌜ Store p places (now s) × (p .columns ≤ 8) ⌝ }
-    ensures { λ r. ⌜ Stored p places (outcomeOf p places (parse p places (now (s .entry))) (requestOf (now (rec .entry)) p)) (now (s .entry)) (now (s .exit)) r ⌝ }
+pub fn execute(s: &mut [u8], p: Profile, places: usize, j: &mut [u8], rec: &[u8]) -> Answer
+    requires { ⌜ Booked p places (now s) (now j) ⌝ }
+    ensures { λ r. ⌜ Settled p places (outcomeOf p places (booksOf p places (now (s .entry)) (now (j .entry))) (requestOf (now (rec .entry)) p)) (now (s .entry)) (now (j .entry)) (now (s .exit)) (now (j .exit)) r ⌝ }
 {
     match record::walk(rec, p) {
         Walked::Breaks(_) => answer::refused(Refusal::RecordBroken, 0),
         Walked::Ends(_) => {
             let k = record::byte_of(rec, 1);
-            if 5 < k {
+            if is_read(k) {
                 return ask(s, p, places, rec, k);
             }
-            write(s, p, places, rec, k)
+            write(s, p, places, j, rec, k)
         }
     }
 }

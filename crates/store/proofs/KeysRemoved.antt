@@ -1,6 +1,5 @@
 -- Rows taken out of a table by their keys, each noted: what goes with one key and with the rest, books that stay laid out, and what a delete comes to.
 -- Assumes nothing.
--- ---- fewer rows
 use mathlib.Core.Path.{_≡_, refl, sym, ap, _∙_, subst}
 use mathlib.Core.Bool.{Bool, true, false, not}
 use mathlib.Core.Option.{Option, none, some}
@@ -44,9 +43,11 @@ use Rattle.journal.specs.Books.{LaidBooks, Booked, Settled}
 use Rattle.journal.proofs.Booking.{LaidPages, laid-are, laid-books-of, laid-fitting, laid-pages, journaled, noted-places}
 use Rattle.journal.proofs.Noting.{book-length}
 use Rattle.store.proofs.Lookups.{stored}
-use Rattle.store.proofs.Settling.{left-alone, more-pages}
+use Rattle.store.proofs.Settling.{same-places, left-alone, more-pages}
 use Rattle.rules.proofs.Outside.{lacks-less}
 use Rattle.journal.proofs.Noting.{noted-is}
+
+-- ---- fewer rows
 
 pub fewer-laid : (p : Profile) (R : ℕ) (st : State) → LaidState p R st → (f : Row → Bool) → LaidState p R (withRows st (keep f (st .rows)))
 fewer-laid p R st v f =
@@ -134,10 +135,7 @@ module _ {p : Profile} {R : ℕ} {s j : List ℕ} (b : LaidBooks p R s j) (t : �
   left-length = held-inside p R s₁ (left-books .store) .long ∙ sym (held-inside p R s (b .store) .long)
 
   pub left-places : length j₁ ≡ length j
-  left-places =
-      book-length (journaled left-books)
-      ∙ ap (journalLength p) (ap (λ (x : Books). x .journal .places) left-are ∙ noted-places (removalsIn p R s t ks) ((booksOf p R s j) .journal))
-      ∙ sym (book-length (journaled b))
+  left-places = same-places b left-books (removalsIn p R s t ks) left-are
 
 -- with one key gone, the rest of the keys come to what all of them do, and have room
 module _ {p : Profile} {R : ℕ} {s j : List ℕ} (b : LaidBooks p R s j) (t : ℕ) (k : Value) (ks : List Value) (room : RoomFor p R s j t (k ∷ ks)) where

@@ -1,5 +1,4 @@
 -- How many rows go with keys: one for each key whose row is stored and that does not come again. Assumes nothing.
--- one, where a row with the key is stored and the key is not among those that follow
 use Prim.Native.Nat.{ℕ, zero, suc, _+_, _-_, _≤_, _<_}
 use native.Mathlib.Omega.{arith}
 use mathlib.Core.Path.{_≡_, refl, sym, _∙_, ap}
@@ -24,6 +23,7 @@ use Rattle.forms.specs.Read.{Read, got, broken, valueAt}
 use Rattle.checks.specs.Keys.{onRead, valuesFrom}
 use Rattle.store.specs.Removed.{removalsIn}
 
+-- one, where a row with the key is stored and the key is not among those that follow
 abbrev pub counted : List Row → Name → Value → List Value → ℕ
 counted rs n k ks = cond (not (among k ks) && hasRow rs n k) 1 0
 

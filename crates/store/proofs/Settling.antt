@@ -16,18 +16,18 @@ use Rattle.rules.specs.Profile.{rowWidth}
 use Rattle.rules.specs.State.{Name, Row}
 use Rattle.rules.specs.Journal.{Event, absent, stood, lacks, Books}
 use Rattle.rules.specs.Request.{Reply, said}
-use Rattle.rules.specs.Step.{Outcome, refused, applyAll, noteAll}
+use Rattle.rules.specs.Step.{Change, changed, Outcome, refused, applyAll, noteAll}
 use Rattle.rules.specs.Sound.{every, goodEvent}
 use Rattle.rules.specs.Layout.{rowRecord}
-use Rattle.rules.specs.Pages.{eventWidth, eventRecord, booksOf}
+use Rattle.rules.specs.Pages.{journalLength, eventWidth, eventRecord, booksOf}
 use Rattle.rules.proofs.Tests.{and-left, and-right, and-both, every-of}
 use Rattle.rules.proofs.Valid.{LaidState}
 use Rattle.rules.proofs.Backed.{More, has-place}
 use Rattle.journal.specs.Page.{Paged, Roomy, hasPlaces, withPlace, Noted}
 use Rattle.journal.specs.Books.{LaidBooks, Booked, Settled}
-use Rattle.journal.proofs.Noting.{has-places-is}
+use Rattle.journal.proofs.Noting.{has-places-is, book-length}
 use Rattle.journal.proofs.Writing.{row-place}
-use Rattle.journal.proofs.Booking.{LaidPages, booked-bytes, journaled}
+use Rattle.journal.proofs.Booking.{LaidPages, booked-bytes, journaled, noted-places}
 
 module _ {p : Profile} {R : ℕ} {s j : List ℕ} (b : LaidBooks p R s j) where
   pub paged-of : Paged p j
@@ -63,6 +63,15 @@ module _ {p : Profile} {j j₁ : List ℕ} where
 
   pub noted-key : {m n : Name} {k v : Value} → m ≡ n → k ≡ v → length (eventRecord p (absent m k)) ≡ eventWidth p → j₁ ≡ withPlace p (eventRecord p (absent m k)) j → Noted p (absent n v) j j₁
   noted-key {m} {n} {k} {v} e f w h = subst (λ (x : Event). Noted p x j j₁) (rw (e, f) refl) (record { wide = w; bytes = h })
+
+-- ---- after changes the journal is as long as it was
+
+pub same-places : {p : Profile} {R : ℕ} {s j s₁ j₁ : List ℕ} → LaidBooks p R s j → LaidBooks p R s₁ j₁ → (cs : List Change) → booksOf p R s₁ j₁ ≡ changed cs (booksOf p R s j)
+    → length j₁ ≡ length j
+same-places {p} {R} {s} {j} b c cs e =
+    book-length (journaled c)
+    ∙ ap (journalLength p) (ap (λ (x : Books). x .journal .places) e ∙ noted-places cs ((booksOf p R s j) .journal))
+    ∙ sym (book-length (journaled b))
 
 -- ---- both stay as they are
 

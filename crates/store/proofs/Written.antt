@@ -1,5 +1,4 @@
 -- A row written to a store, and noted in its journal: what each write comes to, case by case, and both again after it. Assumes nothing.
--- ---- a fault of a row, as the code has it
 use mathlib.Core.Path.{_≡_, refl, sym, ap, _∙_, subst}
 use mathlib.Core.Bool.{Bool, true, false, not, true≢false}
 use mathlib.Core.Option.{Option, none, some}
@@ -58,6 +57,8 @@ use Rattle.store.proofs.Settling.{left-alone}
 use Rattle.journal.proofs.Noting.{noted-is}
 use Rattle.laid.proofs.RowFacts.{table-held}
 use Rattle.laid.proofs.Stores.{store-valid, laid-store}
+
+-- ---- a fault of a row, as the code has it
 
 pub row-told : (p : Profile) (R : ℕ) (st : State) (t : Table) (u : Bool) (v : List Value) → Told (rowFault p R st t u v)
 unfolding rowFault

@@ -62,7 +62,7 @@ returns-4 c =
     let n = c .before .table-count in
     let a = c .before .before .before .before .before .args in
     replied-as (a .p) (a .places) (a .s .now) _ (is-names (a .rec .now) (a .p) (a .k) 2 (c .before .before .match .keys4))
-    (names-answered (a .p) (a .places) (parse (a .p) (a .places) (a .s .now)) (gotOr Names (got Names 2)) _ (got-gives Names (got Names 2) Names 2 refl) (n .result) (c .accepted .ensures)
+    (λ j. names-answered (a .p) (a .places) (record { store = parse (a .p) (a .places) (a .s .now); journal = j }) (gotOr Names (got Names 2)) _ (got-gives Names (got Names 2) Names 2 refl) (n .result) (c .accepted .ensures)
     (n .ensures ∙ tables-counted (a .p) (a .places) (a .s .now)))
 
 returns-5 : tie.Need-returns-5

@@ -19,16 +19,17 @@ cast-count : tie.Need-cast-count
 cast-count c = search needs
 
 add-delete : tie.Need-add-delete
-add-delete c =
-    let m = c .before .before .before in
-    let r = m .before .before in
-    omega (arith, keys-inside _ _ _ (r .name-at .ensures) _ _ (m .name .given .1) Delete (r .before .before .before .pre .1))
+add-delete c = omega (arith, keys-inside _ _ _ (c .before .before .before .before .before .before .name-at .ensures) _ _ (c .before .before .before .before .name .given .1) Delete (c .before .before .before .before .before .before .before .before .before .before .pre .1))
 
 delete-requires : tie.Need-delete-requires
-delete-requires c κs =
-    let m = c .before .before .before in
-    let r = m .before .before in
-    (r .before .before .before .pre .0, packed _ _ _ (r .name-at .ensures) _ _ (m .name .given .1))
+delete-requires c κs = (c .before .before .before .before .before .before .before .before .before .before .pre .0, packed _ _ _ (c .before .before .before .before .before .before .name-at .ensures) _ _ (c .before .before .before .before .name .given .1))
+
+returns : tie.Need-returns
+returns c =
+    delete-acted _ _ _ (keys-read _ _ _ (c .before .before .before .before .before .before .before .before .before .before .before .name-at .ensures) _ _ (c .before .before .before .before .before .before .before .before .before .name .given .1) Delete (c .before .before .before .before .before .before .before .before .before .before .before .before .before .before .before .pre .1) _ (c .before .before .before .before .before .before .before .byte-of .ensures)) (c .before .before .before .before .delete .ensures)
+
+returns-2 : tie.Need-returns-2
+returns-2 c = absurd (keys-unnamed _ _ _ (c .before .before .before .name-at .ensures) Delete _ (c .before .enum-told .given .1) (c .before .before .before .before .before .before .before .pre .1))
 
 enum-told : tie.Need-enum-told
 enum-told c = search needs
@@ -39,18 +40,8 @@ refused-requires c κs = search needs
 same-length : tie.Need-same-length
 same-length c = search needs
 
-returns : tie.Need-returns
-returns c =
-    let d = c .before .before in
-    let o = d .before .before in
-    let m = o .before .before in
-    let r = m .before .before in
-    delete-acted _ _ _ _ _ _ _ _ (keys-read _ _ _ (r .name-at .ensures) _ _ (m .name .given .1) Delete (r .before .before .before .pre .1) _ (o .byte-of .ensures)) (d .delete .ensures)
-
-returns-2 : tie.Need-returns-2
-returns-2 c =
-    let r = c .before .before .before in
-    absurd (keys-unnamed _ _ _ (r .name-at .ensures) Delete _ (c .before .enum-told .given .1) (r .before .before .before .pre .1))
+same-length-2 : tie.Need-same-length-2
+same-length-2 c = search needs
 
 pub delete-spec : {M : Type 1} → statement M
 delete-spec =
@@ -65,5 +56,6 @@ delete-spec =
     enum-told
     refused-requires
     same-length
+    same-length-2
     returns
     returns-2)

@@ -3,6 +3,7 @@ use native.Mathlib.Omega.{arith}
 use borrow.Author.Needs.{needs}
 use Rattle.rules.specs.Request.{Get}
 use Rattle.operations.proofs.Operands.{packed, keys-unnamed, keys-inside}
+use Rattle.rules.specs.Layout.{parse}
 use Rattle.operations.proofs.Asked.{get-told}
 use Rattle.operations.proofs.operate.get.Statement.{statement}
 use Rattle.operations.proofs.operate.get.Tie as tie
@@ -45,14 +46,14 @@ refused-requires : tie.Need-refused-requires
 refused-requires c κs = search needs
 
 returns : tie.Need-returns
-returns c =
+returns c j =
     let n = c .before .found-count in
     let k = c .before .before .byte-of in
     let x = c .before .before .before .before .name .given in
     let m = c .before .before .before .before .before .before .name-at in
     let b = c .before .before .before .before .before .before .before .before .before in
     let a = b .args in
-    get-told (a .rec .now) (a .at) (m .result) (m .ensures) (x .0 .0) (x .0 .1 .0) (x .1) _ _ _ _ (b .pre .1) (n .result) (k .result) (k .ensures) (n .ensures) (c .accepted .ensures)
+    get-told (a .rec .now) (a .at) (m .result) (m .ensures) (x .0 .0) (x .0 .1 .0) (x .1) (a .p) (a .places) (record { store = parse (a .p) (a .places) (a .s .now); journal = j }) _ (b .pre .1) (n .result) (k .result) (k .ensures) (n .ensures) (c .accepted .ensures)
 
 returns-2 : tie.Need-returns-2
 returns-2 c =

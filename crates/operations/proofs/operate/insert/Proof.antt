@@ -1,4 +1,5 @@
 -- `operations::operate::insert` meets its contract. Assumes nothing.
+-- where the function began, and the name that it read
 use Prim.Native.Nat.{ℕ, _+_, _<_}
 use mathlib.Core.Path.{_≡_, refl, sym, ap, _∙_, subst}
 use mathlib.Core.List.{List}
@@ -31,9 +32,8 @@ use Rattle.operations.proofs.InsertRead.{InsertSaid, insert-unnamed, ma
 use Rattle.operations.proofs.operate.insert.Statement.{statement}
 use Rattle.operations.proofs.operate.insert.Tie as tie
 
--- where the function began, and the name that it read
 abbrev start : tie.After-name → tie.Start
-start c = c .before .before .before .before .before
+start c = c .before .before .before .before .before .before
 
 abbrev name : tie.After-name → List ℕ
 name c = textBytes (c .name .given .0 .0)
@@ -51,7 +51,7 @@ operands c =
     let b = start n in
     let r = n .before .before .name-at in
     let w = c .before .before .map-end in
-    insert-said (b .args .rec .now) (b .args .at) (b .pre .2) (r .result) (r .ensures) (n .name .given .0 .0) (n .name .given .0 .1 .0) (n .name .given .1)
+    insert-said (b .args .rec .now) (b .args .at) (b .pre .1) (r .result) (r .ensures) (n .name .given .0 .0) (n .name .given .0 .1 .0) (n .name .given .1)
     (w .result) (w .ensures) (c .q .given .0 .0) (c .q .given .1)
 
 -- the table is looked for
@@ -80,8 +80,8 @@ lendable : (c : tie.After-t) →
     Inside (a .p) (a .places) (a .s .now) × (c .t .given .0 .0 < length ((lists (a .p) (a .places) (a .s .now)) .schemas))
 lendable c =
     let b = begun c in (
-      store-inside (b .args .p) (b .args .places) (b .args .s .now) (b .pre .0),
-      named-place (b .args .p) (b .args .places) (b .args .s .now) (b .pre .0) (name (named (asked c))) (c .t .given .0 .0) (found c),
+      store-inside (b .args .p) (b .args .places) (b .args .s .now) (b .pre .0 .store),
+      named-place (b .args .p) (b .args .places) (b .args .s .now) (b .pre .0 .store) (name (named (asked c))) (c .t .given .0 .0) (found c),
     )
 
 -- and is lent
@@ -95,7 +95,7 @@ bytes : (c : tie.After-table-record) → TableBytes ((begun ((mapper c) .before 
 bytes c =
     let t = (mapper c) .before .before in
     let b = begun t in
-    named-bytes (b .args .p) (b .args .places) (b .args .s .now) (b .pre .0) (name (named (asked t))) (t .t .given .0 .0) (found t) (now (c .table-record .result)) (c .table-record .ensures)
+    named-bytes (b .args .p) (b .args .places) (b .args .s .now) (b .pre .0 .store) (name (named (asked t))) (t .t .given .0 .0) (found t) (now (c .table-record .result)) (c .table-record .ensures)
 
 -- the map is tested
 abbrev lent : tie.After-is-bad-map → tie.After-table-record
@@ -112,7 +112,7 @@ tested c =
     sym (c .is-bad-map .ensures
     ∙ ap (λ (j : ℕ). badMap j (mapped m))
     (c .before .column-count .ensures
-    ∙ named-count (b .args .p) (b .args .places) (b .args .s .now) (b .pre .0) (name (named (asked t))) (t .t .given .0 .0) (found t) (now (r .result)) (r .ensures)))
+    ∙ named-count (b .args .p) (b .args .places) (b .args .s .now) (b .pre .0 .store) (name (named (asked t))) (t .t .given .0 .0) (found t) (now (r .result)) (r .ensures)))
 
 -- the rows are counted
 abbrev tester : tie.After-byte-of → tie.After-is-bad-map
@@ -148,7 +148,7 @@ fault c =
     let b = begun t in
     let r = c .before .before .table-record2 in
     subst (λ (x : Table). faultOf (c .before .fills-fault .result) ≡ fillsFault x (mapped (maps o)) 0 (rows o))
-    (sym (named-is (b .args .p) (b .args .places) (b .args .s .now) (b .pre .0) (name (named (asked t))) (t .t .given .0 .0) (found t) (now (r .result)) (r .ensures)))
+    (sym (named-is (b .args .p) (b .args .places) (b .args .s .now) (b .pre .0 .store) (name (named (asked t))) (t .t .given .0 .0) (found t) (now (r .result)) (r .ensures)))
     (c .before .fills-fault .ensures)
 
 full : (c : tie.Else2) →
@@ -174,8 +174,8 @@ refused-requires c κs = search needs
 returns : tie.Need-returns
 returns c =
     let r = c .before .before .before in
-    let b = r .before .before .before in
-    absurd (insert-unnamed (b .args .rec .now) (b .args .at) (b .pre .2) (r .name-at .result) (r .name-at .ensures) _ (c .before .enum-told .given .1))
+    let b = r .before .before .before .before in
+    absurd (insert-unnamed (b .args .rec .now) (b .args .at) (b .pre .1) (r .name-at .result) (r .name-at .ensures) _ (c .before .enum-told .given .1))
 
 map-end-requires : tie.Need-map-end-requires
 map-end-requires c κs = search needs
@@ -196,7 +196,7 @@ returns-2 c =
     let b = start n in
     let r = n .before .before .name-at in
     absurd
-    (map-whole (b .args .rec .now) (b .args .at) (b .pre .2) (r .result) (r .ensures) (n .name .given .0 .0) (n .name .given .0 .1 .0) (n .name .given .1) (w .map-end .result) (w .map-end .ensures)
+    (map-whole (b .args .rec .now) (b .args .at) (b .pre .1) (r .result) (r .ensures) (n .name .given .0 .0) (n .name .given .0 .1 .0) (n .name .given .1) (w .map-end .result) (w .map-end .ensures)
     _ (c .before .enum-told2 .given .1))
 
 get-table-requires : tie.Need-get-table-requires
@@ -204,7 +204,7 @@ get-table-requires c κs =
     let n = named (c .before .before) in
     let b = start n in
     let r = n .before .before .name-at in (
-      store-catalog (b .args .p) (b .args .places) (b .args .s .now) (b .pre .0),
+      store-catalog (b .args .p) (b .args .places) (b .args .s .now) (b .pre .0 .store),
       packed (b .args .rec .now) (b .args .at) (r .result) (r .ensures) (n .name .given .0 .0) (n .name .given .0 .1 .0) (n .name .given .1),
     )
 
@@ -225,7 +225,7 @@ returns-3 c =
     let g = c .before .before .before in
     let q = g .before .before .before in
     let b = start (named q) in
-    acted-unknown (b .args .p) (b .args .places) (b .args .s .now) (b .pre .0) (name (named q)) (insertAt (b .args .rec .now) (b .args .at)) _ _ ((operands q) .asks _ refl _ refl)
+    acted-unknown (b .pre .0) (name (named q)) (insertAt (b .args .rec .now) (b .args .at)) _ _ ((operands q) .asks _ refl _ refl)
     (answer-is {o = place g} (c .before .enum-told3 .given .1) (g .get-table .ensures)) (c .refused3 .result) (c .refused3 .ensures)
 
 read-map-requires : tie.Need-read-map-requires
@@ -233,7 +233,7 @@ read-map-requires c κs =
     let n = named (asked (c .before)) in
     let b = start n in
     let r = n .before .before .name-at in
-    map-got (b .args .rec .now) (b .args .at) (b .pre .2) (r .result) (r .ensures) (n .name .given .0 .0) (n .name .given .0 .1 .0) (n .name .given .1)
+    map-got (b .args .rec .now) (b .args .at) (b .pre .1) (r .result) (r .ensures) (n .name .given .0 .0) (n .name .given .0 .1 .0) (n .name .given .1)
 
 table-record-requires : tie.Need-table-record-requires
 table-record-requires c κs = lendable (c .before .before .before)
@@ -256,7 +256,7 @@ returns-4 c =
     let m = mapper (lent d) in
     let t = m .before .before in
     let b = begun t in
-    acted-bad (b .args .p) (b .args .places) (b .args .s .now) (b .pre .0) (name (named (asked t))) (insertAt (b .args .rec .now) (b .args .at)) (mapped m) _
+    acted-bad (b .pre .0) (name (named (asked t))) (insertAt (b .args .rec .now) (b .args .at)) (mapped m) _
     ((operands (asked t)) .asks _ refl (mapped m) (m .read-map .ensures .0))
     (t .t .given .0 .0) (found t) (tested d ∙ c .before .if1 .taken) (c .refused4 .result) (c .refused4 .ensures)
 
@@ -272,15 +272,15 @@ table-record-requires-2 c κs = lendable (its (c .before))
 add-fills-fault : tie.Need-add-fills-fault
 add-fills-fault c =
     let q = asked (its (c .before .before)) in
-    omega (arith, (operands q) .inside, (start (named q)) .good .1 .1 .1 .0 .0)
+    omega (arith, (operands q) .inside, (start (named q)) .good .1 .1 .1 .1 .0 .0)
 
 fills-fault-requires : tie.Need-fills-fault-requires
 fills-fault-requires c κs =
     let o = c .before .before in
     let t = its o in
     let b = begun t in (
-      named-bytes (b .args .p) (b .args .places) (b .args .s .now) (b .pre .0) (name (named (asked t))) (t .t .given .0 .0) (found t) (now (c .table-record2 .result)) (c .table-record2 .ensures),
-      b .pre .1,
+      named-bytes (b .args .p) (b .args .places) (b .args .s .now) (b .pre .0 .store) (name (named (asked t))) (t .t .given .0 .0) (found t) (now (c .table-record2 .result)) (c .table-record2 .ensures),
+      b .pre .0 .paging .most,
       (maps o) .read-map .ensures .1,
       (operands (asked t)) .rows (o .byte-of .result) (o .byte-of .ensures),
     )
@@ -301,29 +301,28 @@ returns-5 c =
     let t = its o in
     let b = begun t in
     let r = d .before .fills-fault .result in
-    acted-faulty (b .args .p) (b .args .places) (b .args .s .now) (b .pre .0) (name (named (asked t))) (insertAt (b .args .rec .now) (b .args .at)) (mapped (maps o)) (rows o) (asks o)
+    acted-faulty (b .pre .0) (name (named (asked t))) (insertAt (b .args .rec .now) (b .args .at)) (mapped (maps o)) (rows o) (asks o)
     (t .t .given .0 .0) (found t) (good o) (r .kind) (r .at)
     (fault-some r (fillsFault (table t) (mapped (maps o)) 0 (rows o)) (fault d) (d .is-accepted .result) (d .is-accepted .ensures) (not-true _ (c .before .if2 .taken)))
     (c .refused5 .result) (c .refused5 .ensures)
 
 add-insert-rows : tie.Need-add-insert-rows
 add-insert-rows c =
-    let q = asked (its (counted (c .before .before))) in
-    omega (arith, (operands q) .inside, (start (named q)) .good .1 .1 .1 .0 .0)
+    let q = asked (its (counted (c .before .before .before))) in
+    omega (arith, (operands q) .inside, (start (named q)) .good .1 .1 .1 .1 .0 .0)
 
 insert-rows-requires : tie.Need-insert-rows-requires
 insert-rows-requires c κs =
-    let o = counted (c .before .before) in
+    let o = counted (c .before .before .before) in
     let t = its o in
     let b = begun t in (
       (
         b .pre .0,
-        b .pre .1,
-        named-below (b .args .p) (b .args .places) (b .args .s .now) (b .pre .0) (name (named (asked t))) (t .t .given .0 .0) (found t),
+        named-below (b .args .p) (b .args .places) (b .args .s .now) (b .pre .0 .store) (name (named (asked t))) (t .t .given .0 .0) (found t),
         (maps o) .read-map .ensures .1,
         (operands (asked t)) .rows (o .byte-of .result) (o .byte-of .ensures),
       ),
-      full (c .before),
+      full (c .before .before),
     )
 
 same-length-4 : tie.Need-same-length-4
@@ -331,13 +330,16 @@ same-length-4 c = search needs
 
 returns-6 : tie.Need-returns-6
 returns-6 c =
-    let r = c .before .before in
-    let e = r .before .before in
+    let r = c .before .before .before .before in
+    let e = r .before .before .before in
     let o = counted (e .before) in
     let t = its o in
     let b = begun t in
-    acted-rows (b .args .p) (b .args .places) (b .args .s .now) (b .pre .0) (name (named (asked t))) (insertAt (b .args .rec .now) (b .args .at)) (mapped (maps o)) (rows o) (asks o)
-    (t .t .given .0 .0) (found t) (good o) (full e) _ _ (r .insert-rows .ensures)
+    acted-rows (b .pre .0) (name (named (asked t))) (insertAt (b .args .rec .now) (b .args .at)) (mapped (maps o)) (rows o) (asks o)
+    (t .t .given .0 .0) (found t) (good o) (full e) (r .insert-rows .ensures)
+
+same-length-5 : tie.Need-same-length-5
+same-length-5 c = search needs
 
 pub insert-spec : {M : Type 1} → statement M
 insert-spec =
@@ -378,4 +380,5 @@ insert-spec =
     add-insert-rows
     insert-rows-requires
     same-length-4
+    same-length-5
     returns-6)

@@ -1,4 +1,5 @@
 -- `operations::operate::lookup` meets its contract. Assumes nothing.
+-- where the function began, and the name that it read
 use Prim.Native.Nat.{_+_, _<_}
 use native.Mathlib.Omega.{arith}
 use lib.ListN.{length}
@@ -9,7 +10,6 @@ use Rattle.operations.proofs.Asked.{lookup-inside, lookup-unbroken, loo
 use Rattle.operations.proofs.operate.lookup.Statement.{statement}
 use Rattle.operations.proofs.operate.lookup.Tie as tie
 
--- where the function began, and the name that it read
 abbrev start : tie.After-name → tie.Start
 start c = c .before .before .before .before .before
 
@@ -56,7 +56,7 @@ refused-requires : tie.Need-refused-requires
 refused-requires c κs = search needs
 
 returns : tie.Need-returns
-returns c =
+returns c j =
     let i = c .before .before .byte-of in
     let k = c .before .byte-of2 in
     let n = c .before .before .before .before in
@@ -64,7 +64,7 @@ returns c =
     let a = b .args in
     let m = n .before .before .name-at in
     let x = n .name .given in
-    lookup-says (a .rec .now) (a .at) (m .result) (m .ensures) (x .0 .0) (x .0 .1 .0) (x .1) (b .pre .1) (a .p) (a .places) (parse (a .p) (a .places) (a .s .now)) (c .lookup-index .result)
+    lookup-says (a .rec .now) (a .at) (m .result) (m .ensures) (x .0 .0) (x .0 .1 .0) (x .1) (b .pre .1) (a .p) (a .places) (record { store = parse (a .p) (a .places) (a .s .now); journal = j }) (c .lookup-index .result)
     (i .result) (k .result) (i .ensures) (k .ensures) (c .lookup-index .ensures)
 
 returns-2 : tie.Need-returns-2

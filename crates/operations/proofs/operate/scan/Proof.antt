@@ -1,6 +1,7 @@
 -- `operations::operate::scan` meets its contract. Assumes nothing.
 use borrow.Author.Needs.{needs}
 use Rattle.operations.proofs.Operands.{packed}
+use Rattle.rules.specs.Layout.{parse}
 use Rattle.operations.proofs.Asked.{scan-unbroken, scan-says}
 use Rattle.operations.proofs.operate.scan.Statement.{statement}
 use Rattle.operations.proofs.operate.scan.Tie as tie
@@ -32,13 +33,13 @@ refused-requires : tie.Need-refused-requires
 refused-requires c κs = search needs
 
 returns : tie.Need-returns
-returns c =
+returns c j =
     let y = c .before .before .scan in
     let x = c .before .before .before .before .name .given in
     let m = c .before .before .before .before .before .before .name-at in
     let b = c .before .before .before .before .before .before .before .before .before in
     let a = b .args in
-    scan-says (a .rec .now) (a .at) (m .result) (m .ensures) (x .0 .0) (x .0 .1 .0) (x .1) _ _ _ _ (y .result) (y .ensures) (c .accepted .ensures)
+    scan-says (a .rec .now) (a .at) (m .result) (m .ensures) (x .0 .0) (x .0 .1 .0) (x .1) (a .p) (a .places) (record { store = parse (a .p) (a .places) (a .s .now); journal = j }) _ (y .result) (y .ensures) (c .accepted .ensures)
 
 returns-2 : tie.Need-returns-2
 returns-2 c =

@@ -1,4 +1,5 @@
 -- `operations::operate::update` meets its contract. Assumes nothing.
+-- where the function began, and the name that it read
 use Prim.Native.Nat.{ℕ, _+_, _<_}
 use mathlib.Core.Path.{_≡_, refl, sym, subst}
 use mathlib.Core.Bool.{true}
@@ -28,9 +29,8 @@ use Rattle.operations.proofs.Operands.{packed, update-unnamed, update-r
 use Rattle.operations.proofs.operate.update.Statement.{statement}
 use Rattle.operations.proofs.operate.update.Tie as tie
 
--- where the function began, and the name that it read
 abbrev start : tie.After-name → tie.Start
-start c = c .before .before .before .before .before
+start c = c .before .before .before .before .before .before
 
 abbrev name : tie.After-name → List ℕ
 name c = textBytes (c .name .given .0 .0)
@@ -42,7 +42,7 @@ inside : (c : tie.After-name) → next c < length ((start c) .args .rec .now)
 inside c =
     let b = start c in
     let r = c .before .before .name-at in
-    update-inside (b .args .rec .now) (b .args .at) (r .result) (r .ensures) (c .name .given .0 .0) (next c) (c .name .given .1) (b .pre .2)
+    update-inside (b .args .rec .now) (b .args .at) (r .result) (r .ensures) (c .name .given .0 .0) (next c) (c .name .given .1) (b .pre .1)
 
 asks : (c : tie.After-name) (n : ℕ) → n ≡ getD ((start c) .args .rec .now) (next c) 0 →
     let a = (start c) .args in
@@ -50,7 +50,7 @@ asks : (c : tie.After-name) (n : ℕ) → n ≡ getD ((start c) .args .rec .now)
 asks c n e =
     let b = start c in
     let r = c .before .before .name-at in
-    update-read (b .args .rec .now) (b .args .at) (r .result) (r .ensures) (c .name .given .0 .0) (next c) (c .name .given .1) (b .pre .2) n e
+    update-read (b .args .rec .now) (b .args .at) (r .result) (r .ensures) (c .name .given .0 .0) (next c) (c .name .given .1) (b .pre .1) n e
 
 -- the table is looked for
 abbrev place : tie.After-get-table → Option ℕ
@@ -81,7 +81,7 @@ got c =
     let n = named (its c) in
     let b = start n in
     let r = n .before .before .name-at in
-    pairs-got (b .args .rec .now) (b .args .at) (r .result) (r .ensures) (n .name .given .0 .0) (next n) (n .name .given .1) (b .pre .2) (c .byte-of .result) (c .byte-of .ensures)
+    pairs-got (b .args .rec .now) (b .args .at) (r .result) (r .ensures) (n .name .given .0 .0) (next n) (n .name .given .1) (b .pre .1) (c .byte-of .result) (c .byte-of .ensures)
 
 -- they rise
 abbrev counted : tie.Else1 → tie.After-byte-of
@@ -106,7 +106,7 @@ fault c =
     let b = start (named t) in
     let r = c .before .before .table-record in
     subst (λ (x : Table). faultOf (c .before .size-fault .result) ≡ sizeFault x 0 (pairs o))
-    (sym (named-is (b .args .p) (b .args .places) (b .args .s .now) (b .pre .0) (name (named t)) (t .t .given .0 .0) (found t) (now (r .result)) (r .ensures)))
+    (sym (named-is (b .args .p) (b .args .places) (b .args .s .now) (b .pre .0 .store) (name (named t)) (t .t .given .0 .0) (found t) (now (r .result)) (r .ensures)))
     (c .before .size-fault .ensures)
 
 sized : (c : tie.Else2) →
@@ -132,15 +132,15 @@ refused-requires c κs = search needs
 returns : tie.Need-returns
 returns c =
     let r = c .before .before .before in
-    let b = r .before .before .before in
-    absurd (update-unnamed (b .args .rec .now) (b .args .at) (r .name-at .result) (r .name-at .ensures) _ (c .before .enum-told .given .1) (b .pre .2))
+    let b = r .before .before .before .before in
+    absurd (update-unnamed (b .args .rec .now) (b .args .at) (r .name-at .result) (r .name-at .ensures) _ (c .before .enum-told .given .1) (b .pre .1))
 
 get-table-requires : tie.Need-get-table-requires
 get-table-requires c κs =
     let n = c .before .before in
     let b = start n in
     let r = n .before .before .name-at in (
-      store-catalog (b .args .p) (b .args .places) (b .args .s .now) (b .pre .0),
+      store-catalog (b .args .p) (b .args .places) (b .args .s .now) (b .pre .0 .store),
       packed (b .args .rec .now) (b .args .at) (r .result) (r .ensures) (n .name .given .0 .0) (next n) (n .name .given .1),
     )
 
@@ -161,8 +161,8 @@ returns-2 c =
     let g = c .before .before .before in
     let n = g .before .before .before in
     let b = start n in
-    update-acted (b .args .p) (b .args .places) (b .args .s .now) (b .args .s .now) (c .refused2 .result) (updateAt (b .args .rec .now) (b .args .at)) (name n) _ (asks n _ refl)
-    (update-missed (b .args .p) (b .args .places) (b .args .s .now) (b .pre .0) (name n) _ (answer-is {o = place g} (c .before .enum-told2 .given .1) (g .get-table .ensures)) (c .refused2 .result)
+    update-acted (updateAt (b .args .rec .now) (b .args .at)) (name n) _ (asks n _ refl)
+    (update-missed (b .pre .0) (name n) _ (answer-is {o = place g} (c .before .enum-told2 .given .1) (g .get-table .ensures)) (c .refused2 .result)
     (c .refused2 .ensures))
 
 byte-of-requires : tie.Need-byte-of-requires
@@ -174,7 +174,7 @@ cast-n c = search needs
 add-rising-fault : tie.Need-add-rising-fault
 add-rising-fault c =
     let n = named (its c) in
-    omega (arith, inside n, (start n) .good .1 .1 .1 .0 .0)
+    omega (arith, inside n, (start n) .good .1 .1 .1 .1 .0 .0)
 
 rising-fault-requires : tie.Need-rising-fault-requires
 rising-fault-requires c κs = got c
@@ -195,9 +195,9 @@ returns-3 c =
     let o = y .before .before in
     let t = its o in
     let b = start (named t) in
-    update-acted (b .args .p) (b .args .places) (b .args .s .now) (b .args .s .now) (c .refused3 .result) (updateAt (b .args .rec .now) (b .args .at)) (name (named t)) (pairs o)
+    update-acted (updateAt (b .args .rec .now) (b .args .at)) (name (named t)) (pairs o)
     (asks (named t) (o .byte-of .result) (o .byte-of .ensures))
-    (update-not-rising (b .args .p) (b .args .places) (b .args .s .now) (b .pre .0) (name (named t)) (pairs o) (t .t .given .0 .0) (found t) (f .result .kind) (f .result .at)
+    (update-not-rising (b .pre .0) (name (named t)) (pairs o) (t .t .given .0 .0) (found t) (f .result .kind) (f .result .at)
     (fault-some (f .result) (risingFault 0 (pairs o)) (f .ensures) (y .is-accepted .result) (y .is-accepted .ensures) (not-true _ (c .before .if1 .taken)))
     (c .refused3 .result) (c .refused3 .ensures))
 
@@ -205,21 +205,21 @@ table-record-requires : tie.Need-table-record-requires
 table-record-requires c κs =
     let t = its (counted (c .before)) in
     let b = start (named t) in (
-      store-inside (b .args .p) (b .args .places) (b .args .s .now) (b .pre .0),
-      named-place (b .args .p) (b .args .places) (b .args .s .now) (b .pre .0) (name (named t)) (t .t .given .0 .0) (found t),
+      store-inside (b .args .p) (b .args .places) (b .args .s .now) (b .pre .0 .store),
+      named-place (b .args .p) (b .args .places) (b .args .s .now) (b .pre .0 .store) (name (named t)) (t .t .given .0 .0) (found t),
     )
 
 add-size-fault : tie.Need-add-size-fault
 add-size-fault c =
     let n = named (its (counted (c .before .before))) in
-    omega (arith, inside n, (start n) .good .1 .1 .1 .0 .0)
+    omega (arith, inside n, (start n) .good .1 .1 .1 .1 .0 .0)
 
 size-fault-requires : tie.Need-size-fault-requires
 size-fault-requires c κs =
     let o = counted (c .before .before) in
     let t = its o in
     let b = start (named t) in (
-      named-bytes (b .args .p) (b .args .places) (b .args .s .now) (b .pre .0) (name (named t)) (t .t .given .0 .0) (found t) (now (c .table-record .result)) (c .table-record .ensures),
+      named-bytes (b .args .p) (b .args .places) (b .args .s .now) (b .pre .0 .store) (name (named t)) (t .t .given .0 .0) (found t) (now (c .table-record .result)) (c .table-record .ensures),
       got o,
     )
 
@@ -239,29 +239,28 @@ returns-4 c =
     let o = counted (risen y) in
     let t = its o in
     let b = start (named t) in
-    update-acted (b .args .p) (b .args .places) (b .args .s .now) (b .args .s .now) (c .refused4 .result) (updateAt (b .args .rec .now) (b .args .at)) (name (named t)) (pairs o)
+    update-acted (updateAt (b .args .rec .now) (b .args .at)) (name (named t)) (pairs o)
     (asks (named t) (o .byte-of .result) (o .byte-of .ensures))
-    (update-not-sized (b .args .p) (b .args .places) (b .args .s .now) (b .pre .0) (name (named t)) (pairs o) (t .t .given .0 .0) (found t) (rising (risen y)) (f .result .kind) (f .result .at)
+    (update-not-sized (b .pre .0) (name (named t)) (pairs o) (t .t .given .0 .0) (found t) (rising (risen y)) (f .result .kind) (f .result .at)
     (fault-some (f .result) (sizeFault (table t) 0 (pairs o)) (fault y) (y .is-accepted2 .result) (y .is-accepted2 .ensures) (not-true _ (c .before .if2 .taken)))
     (c .refused4 .result) (c .refused4 .ensures))
 
 add-update-pairs : tie.Need-add-update-pairs
 add-update-pairs c =
-    let n = named (its (counted (risen (c .before .before)))) in
-    omega (arith, inside n, (start n) .good .1 .1 .1 .0 .0)
+    let n = named (its (counted (risen (c .before .before .before)))) in
+    omega (arith, inside n, (start n) .good .1 .1 .1 .1 .0 .0)
 
 update-pairs-requires : tie.Need-update-pairs-requires
 update-pairs-requires c κs =
-    let o = counted (risen (c .before .before)) in
+    let o = counted (risen (c .before .before .before)) in
     let t = its o in
     let b = start (named t) in (
       (
         b .pre .0,
-        b .pre .1,
-        named-below (b .args .p) (b .args .places) (b .args .s .now) (b .pre .0) (name (named t)) (t .t .given .0 .0) (found t),
+        named-below (b .args .p) (b .args .places) (b .args .s .now) (b .pre .0 .store) (name (named t)) (t .t .given .0 .0) (found t),
         got o,
       ),
-      sized (c .before),
+      sized (c .before .before),
     )
 
 same-length-4 : tie.Need-same-length-4
@@ -269,15 +268,18 @@ same-length-4 c = search needs
 
 returns-5 : tie.Need-returns-5
 returns-5 c =
-    let u = c .before .before in
-    let e = u .before .before in
+    let u = c .before .before .before .before in
+    let e = u .before .before .before in
     let o = counted (risen (e .before)) in
     let t = its o in
     let b = start (named t) in
-    update-acted (b .args .p) (b .args .places) (b .args .s .now) _ _ (updateAt (b .args .rec .now) (b .args .at)) (name (named t)) (pairs o)
+    update-acted (updateAt (b .args .rec .now) (b .args .at)) (name (named t)) (pairs o)
     (asks (named t) (o .byte-of .result) (o .byte-of .ensures))
-    (update-in-turn (b .args .p) (b .args .places) (b .args .s .now) (b .pre .0) (name (named t)) (pairs o) (t .t .given .0 .0) (found t) (rising (risen (e .before))) (sized e) _ _
+    (update-in-turn (b .pre .0) (name (named t)) (pairs o) (t .t .given .0 .0) (found t) (rising (risen (e .before))) (sized e)
     (u .update-pairs .ensures))
+
+same-length-5 : tie.Need-same-length-5
+same-length-5 c = search needs
 
 pub update-spec : {M : Type 1} → statement M
 update-spec =
@@ -312,4 +314,5 @@ update-spec =
     add-update-pairs
     update-pairs-requires
     same-length-4
+    same-length-5
     returns-5)
