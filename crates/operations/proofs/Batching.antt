@@ -1,17 +1,17 @@
 -- A batch opened, kept, taken back, as the code does it; 45 where it is not as the operation needs it. Assumes nothing.
 use Prim.Native.Nat.{ℕ}
-use mathlib.Core.Path.{_≡_, refl, sym, _∙_}
+use mathlib.Core.Path.{_≡_, refl, sym, _∙_, ap}
 use mathlib.Core.Bool.{true, false, not}
 use mathlib.Core.List.{List, [], _∷_}
 use mathlib.Core.Option.{none}
 use lib.Dec.{eqb}
-use lib.ListN.{length, getD}
+use lib.ListN.{length, getD, set, replicate}
 use borrow.Author.Tests.{not-true}
 use Rattle.values.specs.Basic.{maybe}
 use Rattle.rules.specs.declared.profile.Profile.{Profile}
 use Rattle.rules.specs.declared.answer.Answer.{Answer}
 use Rattle.rules.specs.declared.answer.Refusal.the-variants.{BatchOutOfTurn}
-use Rattle.rules.specs.Journal.{unwound, isOpen, Books}
+use Rattle.rules.specs.Journal.{unwound, isOpen, batchOf, Books}
 use Rattle.rules.specs.Pages.{journalImage, parseJournal, booksOf}
 use Rattle.forms.specs.Read.{got}
 use Rattle.rules.specs.Request.{Open, Keep, Back, said, ok, no}
@@ -23,7 +23,7 @@ use Rattle.journal.specs.Turn.{eventsIn, Batch}
 use Rattle.journal.specs.Back.{rowsOf, eventsOf, Unwinds}
 use Rattle.journal.specs.Books.{Booked, Settled}
 use Rattle.journal.proofs.Booking.{laid-books, journaled}
-use Rattle.journal.proofs.Noting.{book-length}
+use Rattle.journal.proofs.Noting.{book-length, opened-is, closed-is}
 use Rattle.journal.proofs.TakenBack.{books-batch, back-bytes}
 use Rattle.store.proofs.Settling.{left-alone}
 use Rattle.operations.specs.Batched.{Batched}
@@ -63,10 +63,11 @@ module _ {j : List ℕ} {a : Answer} where
         of = λ p R s b.
             let c : isOpen ((booksOf p R s j) .journal) ≡ false = sym (opens-as p R s j) ∙ h in
             let e : (booksOf p R s j) .journal .batch ≡ none = closed _ c in
+            let f : j ≡ journalImage p (batchOf ((booksOf p R s j) .journal .places) none) = b .bytes ∙ rw e refl in
             rw c
             (record {
               answer = g;
-              bytes = record { store = b .store .bytes; journal = x ∙ ap (λ (l : List ℕ). set l 0 1) (b .bytes ∙ rw e refl) ∙ opened-is p ((booksOf p R s j) .journal .places) };
+              bytes = record { store = b .store .bytes; journal = x ∙ ap (λ (l : List ℕ). set l 0 1) f ∙ opened-is p ((booksOf p R s j) .journal .places) };
             });
       }
 
@@ -102,7 +103,7 @@ module _ {p : Profile} {R : ℕ} {s j : List ℕ} (b : Booked p R s j) where
     pub back-now : {r : ℕ} {s₁ j₁ j₂ : List ℕ} → Unwinds p R s j r s₁ j₁ → length j₁ ≡ length j → j₂ ≡ replicate (length j₁) 0 → {a : Answer} → said a ≡ ok 0
         → Settled p R (takeBack (booksOf p R s j)) s j s₁ j₂ a
     unfolding applyAll apply noteAll note
-    back-now {j₁ = j₁} u l x g =
+    back-now {r} {s₁} {j₁} u l x g =
         rw (back-open p R s j (not-true _ h))
         (record {
           answer = g;

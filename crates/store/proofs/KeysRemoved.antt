@@ -40,8 +40,7 @@ use Rattle.laid.proofs.Keyed.{row-at}
 use Rattle.laid.proofs.Stores.{held-state, held-inside}
 use Rattle.journal.specs.Page.{Noted}
 use Rattle.journal.specs.Books.{LaidBooks, Booked, Settled}
-use Rattle.journal.proofs.Booking.{LaidPages, laid-are, laid-books-of, laid-fitting, laid-pages, journaled, noted-places}
-use Rattle.journal.proofs.Noting.{book-length}
+use Rattle.journal.proofs.Booking.{LaidPages, laid-are, laid-books-of, laid-fitting, laid-pages, journaled}
 use Rattle.store.proofs.Lookups.{stored}
 use Rattle.store.proofs.Settling.{same-places, left-alone, more-pages}
 use Rattle.rules.proofs.Outside.{lacks-less}

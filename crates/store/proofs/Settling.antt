@@ -25,9 +25,11 @@ use Rattle.rules.proofs.Valid.{LaidState}
 use Rattle.rules.proofs.Backed.{More, has-place}
 use Rattle.journal.specs.Page.{Paged, Roomy, hasPlaces, withPlace, Noted}
 use Rattle.journal.specs.Books.{LaidBooks, Booked, Settled}
-use Rattle.journal.proofs.Noting.{has-places-is, book-length}
+use Rattle.journal.proofs.Noting.{book-length, has-places-is}
 use Rattle.journal.proofs.Writing.{row-place}
 use Rattle.journal.proofs.Booking.{LaidPages, booked-bytes, journaled, noted-places}
+
+-- ---- places left
 
 module _ {p : Profile} {R : ℕ} {s j : List ℕ} (b : LaidBooks p R s j) where
   pub paged-of : Paged p j
