@@ -219,7 +219,13 @@ const NONE: Folders = Folders {
 };
 
 // Whether both folders are open and both files can be kept in them. Else the cause is said.
-fn is_ready(folders: Folders, store_after: &[u8], s: &[u8], journal_after: &[u8], j: &[u8]) -> bool {
+fn is_ready(
+    folders: Folders,
+    store_after: &[u8],
+    s: &[u8],
+    journal_after: &[u8],
+    j: &[u8],
+) -> bool {
     if folders.store < 0 || folders.journal < 0 {
         return false;
     }

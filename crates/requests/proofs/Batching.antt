@@ -42,19 +42,19 @@ use Rattle.requests.proofs.Validity.{whole-readable, records-readable, 
 
 -- ---- of any records, over books
 
-requests-append : (ws us : List (Read Request)) → requestsIn (ws ++ us) ≡ requestsIn ws ++ requestsIn us
+pub requests-append : (ws us : List (Read Request)) → requestsIn (ws ++ us) ≡ requestsIn ws ++ requestsIn us
 unfolding requestsIn
 requests-append [] us = refl
 requests-append (got q n ∷ ws) us = ap (λ (qs : List Request). q ∷ qs) (requests-append ws us)
 requests-append (broken x ∷ ws) us = requests-append ws us
 
-every-front : (f : Request → Bool) (qs us : List Request) → every f (qs ++ us) ≡ true → every f qs ≡ true
+pub every-front : (f : Request → Bool) (qs us : List Request) → every f (qs ++ us) ≡ true → every f qs ≡ true
 unfolding every
 every-front f [] us h = refl
 every-front f (q ∷ qs) us h = and-both (and-left (f q) _ h) (every-front f qs us (and-right (f q) _ h))
 
 module _ (R : ℕ) where
-  after-places : (b : Books) (ws : List (Read Request)) → (booksAfter full R b ws) .journal .places ≡ b .journal .places
+  pub after-places : (b : Books) (ws : List (Read Request)) → (booksAfter full R b ws) .journal .places ≡ b .journal .places
   unfolding booksAfter
   after-places b [] = refl
   after-places b (w ∷ ws) = after-places _ ws ∙ noted-places ((outcomeOf full R b w) .changes) (b .journal)
@@ -70,7 +70,7 @@ module _ (R : ℕ) where
       ∙ taken-back full R b ok h (requestsIn ws) r g
 
   -- kept: the store stays, and every byte of the journal is zero
-  kept-bytes : (b : Books) {s₁ j₁ : List ℕ} → BytesOf full R (after full R b Keep) s₁ j₁
+  pub kept-bytes : (b : Books) {s₁ j₁ : List ℕ} → BytesOf full R (after full R b Keep) s₁ j₁
       → (s₁ ≡ image full R (b .store)) × (j₁ ≡ replicate (journalLength full (b .journal .places)) 0)
   kept-bytes b y = (y .store ∙ ap (image full R) (kept-store full R b), y .journal ∙ kept-zero full R b)
 
@@ -81,7 +81,7 @@ module _ (R : ℕ) where
       (demand-of full R (parse full R s) (right-of b .valid) full-known full-indexed (b .store .places))
 
 -- a sound journal has the length that its places say
-sound-long : (s j : List ℕ) → soundBooks full s j ≡ true → journalLength full ((booksOf full (placesOf full s) s j) .journal .places) ≡ length j
+pub sound-long : (s j : List ℕ) → soundBooks full s j ≡ true → journalLength full ((booksOf full (placesOf full s) s j) .journal .places) ≡ length j
 unfolding parseJournal
 sound-long s j h = sym (sound-books-is full s j h .long)
 

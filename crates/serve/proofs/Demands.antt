@@ -5,7 +5,7 @@
 use Prim.Native.Nat.{ℕ, _+_, _≤_, _<_}
 use native.Mathlib.Omega.{arith}
 use mathlib.Core.Path.{_≡_, refl, sym, _∙_, ap, subst}
-use mathlib.Core.Bool.{Bool, true, false, cond, true≢false}
+use mathlib.Core.Bool.{Bool, true, false, not, _&&_, _||_, cond, true≢false}
 use mathlib.Core.List.{List, [], _∷_, _++_, map, append-nil}
 use mathlib.Core.Option.{Option}
 use lib.ListN.{length, take, replicate}
@@ -14,10 +14,10 @@ use Rattle.values.specs.Bytes.{Bytes}
 use Rattle.values.specs.Value.{Value, normalised}
 use Rattle.forms.specs.Read.{Read, got, broken}
 use Rattle.rules.specs.declared.answer.Answer.{Answer}
-use Rattle.rules.specs.declared.answer.Refusal.the-variants.{StoreUnsound}
+use Rattle.rules.specs.declared.answer.Refusal.the-variants.{StoreUnsound, JournalFull, InsideBatch, BatchOutOfTurn}
 use Rattle.rules.specs.Profile.{full}
 use Rattle.rules.specs.State.{Name, empty}
-use Rattle.rules.specs.Journal.{Books, isOpen}
+use Rattle.rules.specs.Journal.{Books, isOpen, lacks, batchOf, withNotes}
 use Rattle.rules.specs.Journal as Journal
 use Rattle.rules.specs.Layout.{image, parse, placesOf}
 use Rattle.rules.specs.Pages.{journalMost, journalLength, journalImage}
@@ -29,7 +29,7 @@ use Rattle.rules.specs.Sound.{rightLength, every}
 use Rattle.rules.specs.Readable.{readable}
 use Rattle.rules.specs.Frame.{Untouched}
 use Rattle.rules.specs.Demand.{Demand3}
-use Rattle.journal.specs.Books.{Settled}
+use Rattle.journal.specs.Books.{Settled, BytesOf}
 use Rattle.sound.specs.Fresh.{Freshened}
 use Rattle.operations.specs.Told.{outcomeOf}
 use Rattle.requests.specs.declared.entry.Halt.the-variants.{Full, Waiting, Stopped, Unsound}
@@ -46,7 +46,7 @@ use Rattle.serve.specs.Flow.{started, Turned}
 use Rattle.serve.specs.Course.{Standing, start, standing, recordMost, left, textLeft, Came, Course, Served, mended}
 use Rattle.serve.specs.Demanded.{Safe, Answers, Calls, Doing, Doings, Spares}
 use Rattle.rules.proofs.Afterwards.{unchanged, refused-whole, insert-stops, update-stops, update-kept}
-use Rattle.rules.proofs.Batches.{goesOn}
+use Rattle.rules.specs.Batch.{goesOn, shut, ofRows, ofSchema, misplaced, notes}
 use Rattle.rules.proofs.Demand.{fresh-right}
 use Rattle.rules.proofs.Frame.{untouched}
 use Rattle.rules.proofs.Paged.{books-sound}
@@ -67,6 +67,10 @@ use Rattle.serve.proofs.Serving.{both-same, booked-places}
 use Rattle.serve.proofs.Log.{came-mended}
 use Rattle.serve.proofs.Answered.{answered-again}
 use Rattle.serve.proofs.Replayed.{replayed}
+use Rattle.rules.proofs.Backed.{place-had}
+use Rattle.rules.proofs.Outside.{step-outside}
+use Rattle.rules.proofs.Noted.{full-needs, full-where, noted-so-far}
+use Rattle.rules.proofs.Refusals.{inside-refused, only-inside, only-misplaced, misplaced-refused}
 
 -- ---- what is promised of one record
 
@@ -372,6 +376,72 @@ module _ (before : Buffers) (h : soundIn full before ≡ true) (input : List ℕ
       (k .1
       ∙ ap (λ (l : ℕ). replicate (journalLength full l) 0) (after-places places₀ books₀ ws)
       ∙ ap (λ (l : ℕ). replicate l 0) (sound-long (before .store) (before .journal) h))
+
+-- ==== INSIDE A BATCH, of one record that says q
+
+module _ (q : Request) (e : ℕ) (before now : Buffers) (a : Answer) (l : Answers (got q e) before now a) (h : soundIn full before ≡ true) where
+  abbrev here : ℕ
+  here = placesIn full before
+
+  abbrev held : Books
+  held = booksIn full here before
+
+  -- what it changes, and what it would change were no batch open
+  abbrev inside : Outcome
+  inside = step full here held q
+
+  abbrev outside : Outcome
+  outside = step full here (shut held) q
+
+  told : said a ≡ inside .reply
+  unfolding outcomeOf
+  told = answered (got q e) before now a l h .answer
+
+  held-now : BytesOf full here (changed (inside .changes) held) (now .store) (now .journal)
+  unfolding outcomeOf
+  held-now = answered (got q e) before now a l h .bytes
+
+  not-overfull : lacks (held .journal) 0 ≡ false
+  not-overfull =
+      let r = right-of (booked-sound full-paging full-indexed (before .store) (before .journal) h) in
+      place-had (held .journal) 0 (λ es f. omega (arith, r .backed es f .few))
+
+  -- where the places that are left suffice for what it changes outside, it is answered as outside and leaves the store so
+  pub inside-as-outside : ofRows q ≡ true → lacks (held .journal) (length (outside .changes)) ≡ false
+      → (said a ≡ outside .reply) × (now .store ≡ image full here (applyAll (outside .changes) (held .store)))
+  inside-as-outside r f =
+      let o = step-outside full here held q r f in
+      (told ∙ ap (λ (x : Outcome). x .reply) o, held-now .store ∙ ap (λ (x : Outcome). image full here (applyAll (x .changes) (held .store))) o)
+
+  -- and 43 exactly where they do not
+  pub inside-full : ofRows q ≡ true → lacks (held .journal) (length (outside .changes)) ≡ true → said a .kind ≡ JournalFull
+  inside-full r f = ap (λ (x : Reply). x .kind) told ∙ full-where full here held not-overfull q r f
+
+  pub only-full : said a .kind ≡ JournalFull → lacks (held .journal) (length (outside .changes)) ≡ true
+  only-full f = full-needs full here held q (sym (ap (λ (x : Reply). x .kind) told) ∙ f)
+
+  -- 44 exactly of a create or a drop inside a batch
+  pub schema-inside : ofSchema q ≡ true → isOpen (held .journal) ≡ true → said a ≡ no InsideBatch 0
+  schema-inside r o = told ∙ ap (λ (x : Outcome). x .reply) (inside-refused full here held q r o)
+
+  pub only-schema : said a .kind ≡ InsideBatch → (ofSchema q && isOpen (held .journal)) ≡ true
+  only-schema f = only-inside full here held q (sym (ap (λ (x : Reply). x .kind) told) ∙ f)
+
+  -- 45 exactly of an opening inside a batch and of an ending outside
+  pub out-of-turn : misplaced (held .journal) q ≡ true → said a ≡ no BatchOutOfTurn 0
+  out-of-turn m = told ∙ ap (λ (x : Outcome). x .reply) (misplaced-refused full here held q m)
+
+  pub only-out-of-turn : said a .kind ≡ BatchOutOfTurn → misplaced (held .journal) q ≡ true
+  only-out-of-turn f = only-misplaced full here held q (sym (ap (λ (x : Reply). x .kind) told) ∙ f)
+
+  -- after any refusal, and after any request of rows: the places that were in use, and one for each row changed so far
+  pub places-so-far : (ofRows q || not (isAccepted (said a))) ≡ true
+      → (now .journal ≡ journalImage full (batchOf (held .journal .places) (withNotes (held .journal) (notes (inside .changes)))))
+      × (length (notes (inside .changes)) ≡ length (inside .changes))
+  unfolding after
+  places-so-far r =
+      let n = noted-so-far full here held q (subst (λ (x : Reply). (ofRows q || not (isAccepted x)) ≡ true) told r) in
+      (held-now .journal ∙ ap (journalImage full) (n .0), n .1)
 
 -- ==== THE KIOSK'S LOG: it is replayed over a fresh store and journal (`c`, a run that more may follow), its torn bytes are cut off, and as many as are
 -- missing appended, whatever they are; then new input is appended to it and run over what the replay left (`d`)

@@ -8,7 +8,6 @@ ghost use mathlib.Core.Bool.{cond};
 ghost use lib.Dec.{eqb};
 ghost use Prim.Native.Nat.{_+_, _-_, _≤_};
 ghost use lib.ListN.{length, take, drop};
-ghost use Rattle.sound.specs.Missing.{Missing};
 ghost use Rattle.journal.specs.Books.{Booked};
 ghost use Rattle.serve.specs.Buffers.{lent};
 ghost use Rattle.serve.specs.Flow.{started, Arrived, Passes, Keeps, Turned};
@@ -120,7 +119,6 @@ pub fn take_turn(
 ) -> Turn
     requires { ⌜ Booked p places (now s) (now j) ⌝ }
     requires { ⌜ f .have ≤ length (now input) ⌝ }
-    requires { ⌜ Missing ⌝ }
     ensures { λ r. ⌜ Turned p places f (lent (now (s .entry)) (now (j .entry))) (lent (now (s .exit)) (now (j .exit))) (now (input .entry)) (now (input .exit)) (now (out .entry)) (now (out .exit)) r ⌝ }
 {
     let g = pass_over(input, f);

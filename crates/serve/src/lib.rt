@@ -16,7 +16,6 @@ ghost use mathlib.Core.Bool.{true, false};
 ghost use Prim.Native.Nat.{_≤_, _<_};
 ghost use lib.ListN.{length};
 ghost use Rattle.rules.specs.Profile.{full};
-ghost use Rattle.sound.specs.Missing.{Missing};
 ghost use Rattle.journal.specs.Books.{Booked};
 ghost use Rattle.requests.specs.Lines.{rowMost};
 ghost use Rattle.serve.specs.Buffers.{lent};
@@ -108,7 +107,6 @@ fn answer_all(
     to: i32,
     f: Flow,
 ) -> Rest
-    requires { ⌜ Missing ⌝ }
     requires { ⌜ Booked p places (now s) (now j) ⌝ }
     requires { ⌜ f .have ≤ length (now input) ⌝ }
     requires { ⌜ rowMost ≤ length (now out) ⌝ }
@@ -216,7 +214,6 @@ fn run(
     log: i32,
     last: bool,
 ) -> Report
-    requires { ⌜ Missing ⌝ }
     requires { ⌜ Booked p places (now s) (now j) ⌝ }
     requires { ⌜ recordMost ≤ length (now input) ⌝ }
     requires { ⌜ rowMost ≤ length (now out) ⌝ }
@@ -258,7 +255,6 @@ fn run(
 
 // Tests both once, and runs the input over them; 38 where one is not sound.
 fn over(s: &mut [u8], j: &mut [u8], from: i32, to: i32, log: i32, last: bool) -> Report
-    requires { ⌜ Missing ⌝ }
     ensures { λ r. ⌜ Served full (lent (now (s .entry)) (now (j .entry))) (lent (now (s .exit)) (now (j .exit))) last r ⌝ }
 {
     let mut input = io::large_buffer();
@@ -286,7 +282,6 @@ fn over(s: &mut [u8], j: &mut [u8], from: i32, to: i32, log: i32, last: bool) ->
 // Answers the records that come from one file in lines to the other. Each piece of the input is appended to the log, if there is one, and on the disk
 // before a record in it is carried out and answered.
 pub fn serve(s: &mut [u8], j: &mut [u8], from: i32, to: i32, log: i32) -> Report
-    requires { ⌜ Missing ⌝ }
     ensures { λ r. ⌜ Served full (lent (now (s .entry)) (now (j .entry))) (lent (now (s .exit)) (now (j .exit))) true r ⌝ }
 {
     over(s, j, from, to, log, true)
@@ -295,7 +290,6 @@ pub fn serve(s: &mut [u8], j: &mut [u8], from: i32, to: i32, log: i32) -> Report
 // Carries the records of a log out again, without a word: a batch that was open is open again. Where it ends in the middle of a record, the report says
 // so.
 pub fn replay(s: &mut [u8], j: &mut [u8], log: i32) -> Report
-    requires { ⌜ Missing ⌝ }
     ensures { λ r. ⌜ Served full (lent (now (s .entry)) (now (j .entry))) (lent (now (s .exit)) (now (j .exit))) false r ⌝ }
 {
     over(s, j, log, NONE, NONE, false)

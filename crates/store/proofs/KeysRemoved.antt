@@ -17,7 +17,7 @@ use Rattle.rules.specs.declared.answer.Refusal.the-variants.{UnknownTable, RowR
 use Rattle.rules.specs.State.{Name, Table, Row, State, isNamed, tableNamed, ofTable, isRow, rowWith}
 use Rattle.rules.specs.Journal.{stood, lacks, Books}
 use Rattle.rules.specs.Layout.{image, parse, unknown}
-use Rattle.rules.specs.Pages.{journalLength, journalImage, booksOf}
+use Rattle.rules.specs.Pages.{journalImage, booksOf}
 use Rattle.rules.specs.Request.{said, ok, no, Carried, carriedBy, noCarrying}
 use Rattle.rules.specs.Rows.{rowReferenced}
 use Rattle.rules.specs.Schema.{first}

@@ -1,7 +1,6 @@
 -- `replay::all_cases` ends, and its two numbers never exceed the cases that are done. Assumes nothing.
 use Prim.Native.Nat.{_+_, _≤_}
 use mathlib.Core.Logic.{⊎-elim}
-use native.Mathlib.Omega.{arith}
 use borrow.Author.Needs.{needs}
 use Rattle.replay.proofs.all_cases.Statement.{statement}
 use Rattle.replay.proofs.all_cases.Tie as tie
@@ -41,7 +40,7 @@ loop-less : tie.Need-loop-less Inv-loop μ-loop
 loop-less c = search needs
 
 loop-again : tie.Need-loop-again Inv-loop μ-loop
-loop-again c = ⊎-elim (λ w. rw (w .2) (search needs)) (λ w. rw (w .2) (search needs)) (c .if3 .came)
+loop-again c = ⊎-elim (λ w. rw (w .2) (search needs)) (λ w. rw (w .2) (search needs)) (c .if4 .came)
 
 returns-2 : tie.Need-returns-2 Inv-loop μ-loop
 returns-2 c = search needs

@@ -80,7 +80,7 @@ run-requires : tie.Need-run-requires
 run-requires c κs =
     let z = c .before .before .before .before .places-of in
     let t = c .before .before .before .before .before .before .before .before .before .before .before in
-    (search needs, (tested-booked (given t) (lent (t .are-sound .last .0) (t .are-sound .last .1 .0)) (as-before t) (z .result) (z .ensures) (sym (t .are-sound .ensures .0) ∙ not-false _ (c .before .before .before .before .before .before .if1 .left)), (search needs, search needs)))
+    (tested-booked (given t) (lent (t .are-sound .last .0) (t .are-sound .last .1 .0)) (as-before t) (z .result) (z .ensures) (sym (t .are-sound .ensures .0) ∙ not-false _ (c .before .before .before .before .before .before .if1 .left)), (search needs, search needs))
 
 same-length-3 : tie.Need-same-length-3
 same-length-3 c = search needs

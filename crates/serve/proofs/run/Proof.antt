@@ -116,7 +116,7 @@ answer-all-requires : tie.Need-answer-all-requires Inv-loop μ-loop
 answer-all-requires c κs =
     let k = c .before .before .before .before .before .before .before .before .before .before .before in
     let l = turn k in
-    (search needs, (l .loop .inv .0 .came .booked, (k .take-in .ensures .have, l .loop .inv .2)))
+    (l .loop .inv .0 .came .booked, (k .take-in .ensures .have, l .loop .inv .2))
 
 wrapping-add-u64-requires-2 : tie.Need-wrapping-add-u64-requires-2 Inv-loop μ-loop
 wrapping-add-u64-requires-2 c κs = search needs

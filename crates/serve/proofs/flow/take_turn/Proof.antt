@@ -26,7 +26,7 @@ keep-requires : tie.Need-keep-requires
 keep-requires c κs =
     let b = c .before .before .before .before .before .before .before .before .before .before .before .before .before .before .before in
     let a = b .before .before .before .before .before .before in
-    (taken-at-hand (b .pass-over .result .have) _ _ (b .pass-over .last .0) (c .before .before .before .before .before .before .before .run .ensures .passed), omega (arith, b .pass-over .ensures .have, b .pass-over .kept .0, a .pre .1 .0))
+    (taken-at-hand (b .pass-over .result .have) _ _ (b .pass-over .last .0) (c .before .before .before .before .before .before .before .run .ensures .passed), omega (arith, b .pass-over .ensures .have, b .pass-over .kept .0, a .pre .1))
 
 same-length : tie.Need-same-length
 same-length c = search needs
