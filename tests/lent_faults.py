@@ -7,7 +7,7 @@ import signal
 import subprocess
 import time
 
-from room import EMULATED, ROOT, Room, command, compared, disk, shown
+from room import EMULATED, ROOT, Room, Said, command, compared, disk, shown
 
 from journal import journal_size  # noqa: E402
 from layout import image  # noqa: E402
@@ -211,6 +211,27 @@ def no_stores(tally):
          out=lines, undone=None, changed=left)
 
 
+def halves(tally):
+    """The second file can't be replaced once the first is: a folder comes in its way while the records are read. It is said which is new."""
+    for title, source, lines, left, way, told in [
+        ("none is open", SHEET, LINES, {"after": LEFT["after"]}, "kept", "after is replaced, but kept is as it was"),
+        ("a batch is open", BATCH, BATCH_LINES, {"kept": BATCH_LEFT["kept"]}, "after", "kept is replaced, but after is as it was"),
+    ]:
+        with Room() as room:
+            room.put(good(records="pipe"))
+            before = room.files()
+            with subprocess.Popen(command("lent") + NAMES, cwd=room.folder, stdout=subprocess.PIPE, stderr=subprocess.PIPE) as running:
+                with open(room.path("records"), "wb") as records:
+                    records.write(source)
+                    records.flush()
+                    out = running.stdout.read(len(lines))  # both were tried, and all is answered
+                    os.mkdir(room.path(way))
+                rest, err = running.communicate(timeout=60)
+            said = Said(out + rest, err, running.returncode)
+            judged("lent: one file of two is replaced, " + title, tally, room, before, said, lines, "lent: not done: " + told,
+                   changed={**left, way: "dir"})
+
+
 def outputs(tally):
     """Standard output that takes nothing: neither file may be touched."""
     with open("/dev/full", "wb") as full:
@@ -320,6 +341,6 @@ def kills(tally, rounds):
 
 
 def play(tally, rounds):
-    for part in (whole_runs, batches, wrong_names, no_stores, outputs, without_standard_files, full_disks, usages):
+    for part in (whole_runs, batches, wrong_names, no_stores, halves, outputs, without_standard_files, full_disks, usages):
         part(tally)
     kills(tally, rounds)

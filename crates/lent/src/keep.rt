@@ -146,10 +146,14 @@ fn may_replace(after: &[u8]) -> bool {
     kept
 }
 
+// Whether anything has this name. A pipe is opened for both ways, so that nobody is waited for.
 fn is_there(path: &[u8]) -> bool {
-    let fd = os::open_read(path);
-    libc::close(fd);
-    0 <= fd
+    let fd = os::open_update(path);
+    if 0 <= fd {
+        libc::close(fd);
+        return true;
+    }
+    os::errno() != libc::ENOENT
 }
 
 // Whether a new file beside one name stands beside the other too, and goes with it.

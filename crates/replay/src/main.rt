@@ -1,6 +1,6 @@
 // Runs recorded streams and holds lines and final bytes against those that were recorded: `replay LIST..`. A list has, for each case, the number of
-// journal places, 0 where no batch comes, and that of row places; the records, the lines, the store at the end and, where a batch comes, the
-// journal at the end, each after its length.
+// the journal's places, which is 0 where no batch comes, and of row places, two bytes each; the records, the lines, the store at the end, and where
+// the journal has places its bytes at the end, each of these after its length.
 use libc::STDOUT_FILENO;
 use requests::entry;
 use requests::entry::Halt;
@@ -33,14 +33,14 @@ fn part(fd: i32, out: &mut [u8]) -> usize
     n
 }
 
-// Whether the records over a fresh store and its journal give the lines and leave the bytes of both.
+// Whether the records over a fresh store and the zeros of a journal give the lines and leave the bytes.
 fn agrees(
     store: &mut [u8],
     journal: &mut [u8],
     records: &[u8],
     lines: &[u8],
     after: &[u8],
-    kept: &[u8],
+    left: &[u8],
 ) -> bool {
     let mut out = io::large_buffer();
     fresh::fresh(store);
@@ -54,7 +54,7 @@ fn agrees(
             let n = r.written;
             bytes::same_bytes(&out[0..n], lines)
                 && bytes::same_bytes(store, after)
-                && bytes::same_bytes(journal, kept)
+                && bytes::same_bytes(journal, left)
         }
         _ => false,
     }
@@ -67,40 +67,47 @@ fn room() -> [u8; 64958]
     [0; 64958]
 }
 
-// Room for a journal with 70 places, all zero.
+// The zeros of a journal with 70 places.
 fn pages() -> [u8; 16383]
     ensures { λ r. ⌜ 16383 ≡ length r ⌝ }
 {
     [0; 16383]
 }
 
-// One case with R row places, 1 to 70, and J journal places, at most 70. Without a batch there is one place, and it stays zero.
-fn case(fd: i32, places: usize, count: usize) -> bool
-    requires { ⌜ (places ≤ 70) × (count ≤ 70) ⌝ }
+// One case with R row places, 1 to 70, and J places of the journal, 0 to 70. Where J is 0, one with a single place is lent and stays zeros.
+fn case(fd: i32, places: usize, batch: usize) -> bool
+    requires { ⌜ places ≤ 70 ⌝ }
+    requires { ⌜ batch ≤ 70 ⌝ }
 {
     let mut store = room();
     let mut after = room();
     let mut journal = pages();
-    let mut kept = pages();
+    let mut left = pages();
     let mut records = io::large_buffer();
     let mut lines = io::large_buffer();
     let n = part(fd, &mut records);
     let m = part(fd, &mut lines);
     let k = part(fd, &mut after);
     let size = 10428 + 779 * places;
-    let mut l = 237;
-    let mut span = 237;
-    if 0 < count {
-        l = part(fd, &mut kept);
-        span = 3 + 234 * count;
+    if batch == 0 {
+        return agrees(
+            &mut store[0..size],
+            &mut journal[0..237],
+            &records[0..n],
+            &lines[0..m],
+            &after[0..k],
+            &left[0..237],
+        );
     }
+    let l = part(fd, &mut left);
+    let pages = 3 + 234 * batch;
     agrees(
         &mut store[0..size],
-        &mut journal[0..span],
+        &mut journal[0..pages],
         &records[0..n],
         &lines[0..m],
         &after[0..k],
-        &kept[0..l],
+        &left[0..l],
     )
 }
 
@@ -117,13 +124,13 @@ fn all_cases(fd: i32) -> Tally {
     };
     let mut left: u64 = 1000000;
     while 0 < left {
-        let head = four(fd);
-        let count = head / 65536;
-        let places = head % 65536;
-        if places < 1 || 70 < places || 70 < count {
+        let sizes = four(fd);
+        let batch = sizes / 65536;
+        let places = sizes % 65536;
+        if places < 1 || 70 < places || 70 < batch {
             return t;
         }
-        if case(fd, places, count) {
+        if case(fd, places, batch) {
             t.agree += 1;
         } else {
             t.differ += 1;
