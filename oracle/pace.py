@@ -130,7 +130,8 @@ def batches(folder):
             table.setdefault("test an open journal, places in use: %d" % used, []).append(count)
             count = instructions(store, data, record("back"), folder)[0] - instructions(store, data, BROKEN, folder)[0]
             table.setdefault("take back, places in use: %d" % used, []).append(count)
-    shown(["journal", *["R = {:,}".format(places) for places in (SIZES[0], SIZES[-1])]], dict(sorted(table.items(), reverse=True)))
+    rows = dict(sorted(table.items(), key=lambda row: row[0].split(":")[0], reverse=True))
+    shown(["journal", *["R = {:,}".format(places) for places in (SIZES[0], SIZES[-1])]], rows)
 
 
 def main(words):
