@@ -16,7 +16,7 @@ use values::value::{Order, Text};
 use values::{cell, value};
 
 // The first rule that is broken, and at which column, row or pair; none where the kind is Accepted.
-#[derive(Drop)]
+#[derive(Clone, Copy)]
 pub struct Fault {
     pub kind: Refusal,
     pub at: usize,

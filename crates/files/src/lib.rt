@@ -1,4 +1,5 @@
 // What the programs ask of files beyond `os`: that nothing is lost by a wrong name or a stop, and that what was not done is said.
+#![tactic(auto)]
 pub mod path; // the folder that a file stands in; links
 pub mod say; // lines on standard error
 
@@ -7,7 +8,7 @@ ghost use Rattle.std.specs.Prelude.{◌≡◌, ◌≤◌, length};
 use values::bytes;
 
 // What was read of a file: its bytes up to its end or as far as there was room, and whether reading failed.
-#[derive(Drop)]
+#[derive(Clone, Copy)]
 pub struct Loaded {
     pub count: usize,
     pub failed: bool,

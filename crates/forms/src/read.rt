@@ -8,13 +8,13 @@ ghost use Rattle.forms.specs.Read.{boolean_at, eight_at, as_text, name_at, cell_
 use values::value::{Cell, Text, Value};
 use values::{bytes, cell, value};
 
-#[derive(Drop)]
+#[derive(Clone, Copy)]
 pub enum ReadName {
     Named { name: Text, next: usize },
     Bad(usize),
 }
 
-#[derive(Drop)]
+#[derive(Clone, Copy)]
 pub enum ReadCell {
     Got { cell: Cell, next: usize },
     Broken(usize),

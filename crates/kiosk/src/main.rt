@@ -4,6 +4,7 @@
 //
 // Where something was not done, the last line on standard error begins with `kiosk: not done:`, for a script to test. Where LOG was not
 // empty, a line says what was taken over.
+#![tactic(auto)]
 mod log; // the file that the records are kept in
 mod search; // whether a record begins in a file
 

@@ -4,7 +4,7 @@ use records::frame::Framed;
 use values::bytes;
 
 // What stands at a place of a file: what can begin a record, something else, its end, or what can't be read.
-#[derive(Drop)]
+#[derive(Clone, Copy)]
 pub enum Seen {
     Record,
     Other,

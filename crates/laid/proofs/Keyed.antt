@@ -26,7 +26,7 @@ use Rattle.rules.specs.Sound.{canonical}
 use Rattle.rules.specs.Layout.{lists, Rows, rows_count, row_record, records_of, parse}
 use Rattle.rules.proofs.Widths.{cell-within, row-most}
 use Rattle.rules.proofs.Tests.{every-at}
-use Rattle.rules.proofs.Lists.{nth_in, nth-below, below-nth, map_at}
+use Rattle.rules.proofs.Lists.{nth_in, nth-below, below-nth, map_at_lem}
 use Rattle.rules.proofs.Index.{ord_row}
 use Rattle.rules.proofs.Room.{key-column, table-in}
 use Rattle.rules.proofs.Trip.{GoodRow, row-name, row-cell, row-long, cell-alone, canonical-normal}
@@ -98,7 +98,7 @@ module _ (p : Profile) (R : ℕ) (s : List ℕ) (b : LaidStore p R s) where
     row_within = omega (arith, ap length rows-laid, length-map rows (row_record p))
 
     pub row_read : get_or (lists p R s).rows i [] ≡ row_record p (row_in p R s i)
-    row_read = ap (λ (l : List (List ℕ)). get_or l i []) rows-laid ∙ map_at (row_record p) rows i (row_in p R s i) [] row_at
+    row_read = ap (λ (l : List (List ℕ)). get_or l i []) rows-laid ∙ map_at_lem (row_record p) rows i (row_in p R s i) [] row_at
 
     pub row-in : In (row_in p R s i) rows
     row-in = nth_in rows i (row_in p R s i) row_at

@@ -25,7 +25,7 @@ use Rattle.rules.specs.Sound.{good_table}
 use Rattle.rules.proofs.Contents.{insert_entry, remove-entries}
 use Rattle.rules.proofs.Index.{ord_entry}
 use Rattle.rules.proofs.Laid.{laid-lists}
-use Rattle.rules.proofs.Lists.{in-inserted, nth-below, map_at, map_back}
+use Rattle.rules.proofs.Lists.{in-inserted, nth-below, map_at_lem, map_back}
 use Rattle.rules.proofs.Trip.{GoodRow, GoodEntry, table-good, table-back, entry-back, row-long}
 use Rattle.laid.specs.declared.catalog.Column.{Column}
 use Rattle.laid.specs.Column.{column_of, ColumnRead}
@@ -82,7 +82,7 @@ module _ (p : Profile) (k : Coded p) (R : ℕ) (most : R ≤ places_most) (st : 
       module _ (rec : List ℕ) (er : rec ≡ get_or (lists p R s).schemas t []) (g : good_table p T ≡ true) where
         table_is : rec ≡ table_record p T
         unfolding records_of
-        table_is = er ∙ ap (λ (x : Lists). get_or x.schemas t []) mid-lists ∙ map_at (table_record p) st.tables t T [] at
+        table_is = er ∙ ap (λ (x : Lists). get_or x.schemas t []) mid-lists ∙ map_at_lem (table_record p) st.tables t T [] at
 
         pub mid-table-bytes : TableBytes p rec
         mid-table-bytes = subst (TableBytes p) (sym table_is) (table-bytes p k T g)
@@ -121,7 +121,7 @@ module _ (p : Profile) (k : Coded p) (R : ℕ) (most : R ≤ places_most) (st : 
       module _ (rec : List ℕ) (er : rec ≡ get_or (lists p R s).rows i []) (g : GoodRow p r) where
         row_is : rec ≡ row_record p r
         unfolding records_of
-        row_is = er ∙ ap (λ (x : Lists). get_or x.rows i []) mid-lists ∙ map_at (row_record p) st.rows i r [] at
+        row_is = er ∙ ap (λ (x : Lists). get_or x.rows i []) mid-lists ∙ map_at_lem (row_record p) st.rows i r [] at
 
         pub mid-row-long : length rec ≡ row_width p
         mid-row-long = ap length row_is ∙ row-long p k.known.cell r g

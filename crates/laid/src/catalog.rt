@@ -14,7 +14,7 @@ use rules::profile::Profile;
 use values::cell;
 use values::value::{Cell, Order, Text};
 
-#[derive(Drop)]
+#[derive(Clone, Copy)]
 pub struct Column {
     pub name: Text,
     pub kind: u8,
@@ -28,7 +28,7 @@ pub struct Column {
 }
 
 // Where something stands, if it is there.
-#[derive(Drop)]
+#[derive(Clone, Copy)]
 pub enum Found {
     At(usize),
     Nothing,

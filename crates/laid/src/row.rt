@@ -22,7 +22,7 @@ use values::value::{Cell, Order, Text, Value};
 pub const CELLS_MOST: usize = 8;
 
 // The values of a row on their way into the store.
-#[derive(Drop)]
+#[derive(Clone, Copy)]
 pub struct Row {
     pub cells: [Cell; CELLS_MOST],
     pub count: usize,

@@ -6,7 +6,7 @@ use files::{path, say};
 use values::bytes;
 
 // Whether both are kept: under their names and on the disk, not at all, one without the other, or under their names and perhaps not on the disk.
-#[derive(Drop)]
+#[derive(Clone, Copy)]
 pub enum Kept {
     Yes,
     No,
@@ -16,7 +16,7 @@ pub enum Kept {
 }
 
 // The same of two files of which one goes first.
-#[derive(Drop)]
+#[derive(Clone, Copy)]
 enum InTurn {
     Both,
     Neither,
@@ -25,7 +25,7 @@ enum InTurn {
 }
 
 // A new file: its descriptor, or -1, how long its name is, and which of the names to try it is.
-#[derive(Drop)]
+#[derive(Clone, Copy)]
 struct New {
     file: i32,
     length: usize,
@@ -213,7 +213,7 @@ fn have_room(store_after: &[u8], s: &[u8], journal_after: &[u8], j: &[u8]) -> bo
 }
 
 // The folders of both files, open; -1 where they can't be kept.
-#[derive(Drop)]
+#[derive(Clone, Copy)]
 pub struct Folders {
     pub store: i32,
     pub journal: i32,

@@ -4,6 +4,7 @@
 //
 // Nothing is on standard error where all went well. Else its last line begins with `lent: not done:` and names the last two files, for a script
 // to test; where one of them is replaced and the other is not, it says which.
+#![tactic(auto)]
 mod keep; // two files replaced whole
 
 use files::say;

@@ -27,7 +27,7 @@ use rules::profile::Profile;
 use values::value::{Cell, Value};
 
 // The map of an insert: whether there is one, and where its column numbers stand.
-#[derive(Drop)]
+#[derive(Clone, Copy)]
 pub struct Map {
     pub given: bool,
     pub at: usize,
@@ -35,7 +35,7 @@ pub struct Map {
 }
 
 // A value, if there is one.
-#[derive(Drop)]
+#[derive(Clone, Copy)]
 pub struct Given {
     pub found: bool,
     pub cell: Cell,

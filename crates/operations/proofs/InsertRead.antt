@@ -47,15 +47,15 @@ use Rattle.records.proofs.Walking.{ends}
 -- the operands, and where each ends
 record InsertRead (rec : List ℕ) (at : ℕ) : Type 0 where
   name : List ℕ
-  map_at : ℕ
-  named : name_at rec at ≡ got name map_at
+  map_from : ℕ
+  named : name_at rec at ≡ got name map_from
   chosen : Option (List ℕ)
-  count_at_lem : ℕ
-  mapped : map_at rec map_at ≡ got chosen count_at_lem
-  inside : count_at_lem < length rec
+  count_from : ℕ
+  mapped : map_at rec map_from ≡ got chosen count_from
+  inside : count_from < length rec
   rows : List (List Value)
   end : ℕ
-  listed : times (values_at rec) (get_or rec count_at_lem 0) (count_at_lem + 1) ≡ got rows end
+  listed : times (values_at rec) (get_or rec count_from 0) (count_from + 1) ≡ got rows end
   all : got_or Names (insert_at rec at) ≡ Insert name chosen rows
 
 insert-read : (rec : List ℕ) (at : ℕ) → is_got (insert_at rec at) ≡ true → InsertRead rec at
@@ -70,10 +70,10 @@ insert-read rec at g =
     let e : w.what ≡ Insert a.first b.first d.first = cc d.then in
     record {
       name = a.first;
-      map_at = a.next;
+      map_from = a.next;
       named = a.is;
       chosen = b.first;
-      count_at_lem = b.next;
+      count_from = b.next;
       mapped = b.is;
       inside = t.inside;
       rows = d.first;
@@ -99,25 +99,25 @@ module _ (rec : List ℕ) (at : ℕ) (g : is_got (insert_at rec at) ≡ true) wh
     insert-unnamed k h = unnamed rec at x ex _ k h g
 
     module _ (name : Text) (next : ℕ) (h : x ≡ Named name next) where
-      same_name : got r.name r.map_at ≡ got (text_bytes name) next
+      same_name : got r.name r.map_from ≡ got (text_bytes name) next
       same_name = sym r.named ∙ sym ex.is ∙ ap name_read h
 
-      map-there : map_at rec next ≡ got r.chosen r.count_at_lem
-      map-there = let e : r.map_at ≡ next = cc same_name in ap (map_at rec) (sym e) ∙ r.mapped
+      map-there : map_at rec next ≡ got r.chosen r.count_from
+      map-there = let e : r.map_from ≡ next = cc same_name in ap (map_at rec) (sym e) ∙ r.mapped
 
       pub map-got : is_got (map_at rec next) ≡ true
-      map-got = got-is (map_at rec next) r.chosen r.count_at_lem map-there
+      map-got = got-is (map_at rec next) r.chosen r.count_from map-there
 
       module _ (w : Walked) (ew : w ≡ walked_as (map_at rec next)) where
-        map-ends : w ≡ Ends r.count_at_lem
-        map-ends = ew ∙ ap walked_as map-there ∙ sym (ends r.chosen r.count_at_lem)
+        map-ends : w ≡ Ends r.count_from
+        map-ends = ew ∙ ap walked_as map-there ∙ sym (ends r.chosen r.count_from)
 
         pub map_whole : (k : ℕ) → w ≡ Breaks k → ⊥
-        map_whole k f = let d : Ends r.count_at_lem ≡ Breaks k = sym map-ends ∙ f in let z : ◌≡◌ {A = ℕ} 0 1 = cc in omega arith
+        map_whole k f = let d : Ends r.count_from ≡ Breaks k = sym map-ends ∙ f in let z : ◌≡◌ {A = ℕ} 0 1 = cc in omega arith
 
         module _ (q : ℕ) (f : w ≡ Ends q) where
-          count-is : r.count_at_lem ≡ q
-          count-is = let d : Ends r.count_at_lem ≡ Ends q = sym map-ends ∙ f in cc d
+          count-is : r.count_from ≡ q
+          count-is = let d : Ends r.count_from ≡ Ends q = sym map-ends ∙ f in cc d
 
           rows-there : (n : ℕ) → n ≡ get_or rec q 0 → times (values_at rec) n (q + 1) ≡ got r.rows r.end
           rows-there n en = rw (en, ← count-is) r.listed
@@ -129,7 +129,7 @@ module _ (rec : List ℕ) (at : ℕ) (g : is_got (insert_at rec at) ≡ true) wh
               let e : r.name ≡ text_bytes name = cc same_name in
               r.all
               ∙ ap (λ (k : List ℕ). Insert k r.chosen r.rows) e
-              ∙ ap (λ (k : Option (List ℕ)). Insert (text_bytes name) k r.rows) (sym (em ∙ got-gives none (map_at rec next) r.chosen r.count_at_lem map-there))
+              ∙ ap (λ (k : Option (List ℕ)). Insert (text_bytes name) k r.rows) (sym (em ∙ got-gives none (map_at rec next) r.chosen r.count_from map-there))
               ∙ ap (Insert (text_bytes name) m) (sym (got-gives [] (times (values_at rec) n (q + 1)) r.rows r.end (rows-there n en)))
 
           pub insert-said : InsertSaid rec at name next q

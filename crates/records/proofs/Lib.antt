@@ -1,3 +1,2 @@
 pub mod Framing
 pub mod Walking
-pub mod Held

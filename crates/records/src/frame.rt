@@ -2,7 +2,7 @@
 ghost use Rattle.std.specs.Prelude.{◌≡◌};
 ghost use Rattle.records.specs.Frame.{framed};
 
-#[derive(Drop)]
+#[derive(Clone, Copy)]
 pub enum Framed {
     // a whole record of so many bytes, its two length bytes included
     Whole(usize),

@@ -6,7 +6,7 @@ ghost use Rattle.forms.specs.Read.{NameRead, CellRead};
 use forms::read;
 use forms::read::{ReadCell, ReadName};
 
-#[derive(Drop)]
+#[derive(Clone, Copy)]
 pub struct Reader<'a> {
     pub bytes: &'a [u8],
     pub at: usize,

@@ -13,7 +13,7 @@ use forms::read::{ReadCell, ReadName};
 use rules::profile::Profile;
 
 // Where something ends, or where it breaks.
-#[derive(Drop)]
+#[derive(Clone, Copy)]
 pub enum Walked {
     Ends(usize),
     Breaks(usize),

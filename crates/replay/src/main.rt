@@ -1,6 +1,7 @@
 // Runs recorded streams and holds lines and final bytes against those that were recorded: `replay LIST..`. A list has, for each case, the number of
 // the journal's places, which is 0 where no batch comes, and of row places, two bytes each; the records, the lines, the store at the end, and where
 // the journal has places its bytes at the end, each of these after its length.
+#![tactic(auto)]
 ghost use Rattle.std.specs.Prelude.{◌≡◌, ◌≤◌, length};
 
 use libc::STDOUT_FILENO;
@@ -110,7 +111,7 @@ fn case(fd: i32, places: usize, batch: usize) -> bool
     )
 }
 
-#[derive(Drop)]
+#[derive(Clone, Copy)]
 struct Tally {
     pub agree: u64,
     pub differ: u64,

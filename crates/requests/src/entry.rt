@@ -20,7 +20,7 @@ use rules::{answer, profile};
 use sound::{fresh, journal_test};
 
 // Why a run came to its end.
-#[derive(Drop)]
+#[derive(Clone, Copy)]
 pub enum Halt {
     // the output has no room for the next line, or none for the longest one to begin a record
     Full,
@@ -34,7 +34,7 @@ pub enum Halt {
 
 // How far a run came: bytes of the input passed, bytes to pass over in what follows it, records answered, bytes written, and how many row lines of
 // the next record are written.
-#[derive(Drop)]
+#[derive(Clone, Copy)]
 pub struct Ran {
     pub halt: Halt,
     pub taken: usize,

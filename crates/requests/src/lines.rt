@@ -28,14 +28,14 @@ use values::value::{Cell, Text, Value};
 use walks::walk;
 
 // Where a request's lines go on: of get the number of keys passed, of scan and list a place in the store; of lookup the last key.
-#[derive(Drop)]
+#[derive(Clone, Copy)]
 struct Place {
     pub at: usize,
     pub key: Cell,
 }
 
 // How many bytes a line took, none where no line is left, and the place behind it.
-#[derive(Drop)]
+#[derive(Clone, Copy)]
 struct Step {
     pub count: usize,
     pub at: usize,
@@ -43,7 +43,7 @@ struct Step {
 }
 
 // How many bytes were written, how many row lines of the request are now written in all, and whether all is written, the answer too.
-#[derive(Drop)]
+#[derive(Clone, Copy)]
 pub struct Put {
     pub written: usize,
     pub lines: usize,

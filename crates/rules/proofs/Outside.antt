@@ -20,7 +20,7 @@ use Rattle.rules.specs.Journal.{Event, Journal, lacks, Books, batch_of, with_not
 use Rattle.rules.specs.Request.{Pair, Request, Create, Drop, Insert, Update, Delete, Get, Lookup, Scan, Names, Open, Keep, Back, no, Carried, no_carrying, with_gone, entered}
 use Rattle.rules.specs.Schema.{first}
 use Rattle.rules.specs.Rows.{row_fault, row_referenced, full_row}
-use Rattle.rules.specs.Step.{Change, added, removed, replaced, without_row, apply_all, noted, note, note_all, changed, Outcome, did, refused, is_accepted, at_place, in_turn, journal_fault, insert_row, removals, delete, same_key, reinsert, other_key, pair, insert, update, act, step}
+use Rattle.rules.specs.Step.{Change, created, dropped, added, removed, replaced, opened, kept, taken_back, without_row, apply_all, noted, note, note_all, changed, Outcome, did, refused, is_accepted, at_place, in_turn, journal_fault, insert_row, removals, delete, same_key, reinsert, other_key, pair, insert, update, act, step}
 use Rattle.rules.proofs.Tests.{by-option, by_cond, none_first}
 use Rattle.rules.proofs.Cells.{row-passes}
 use Rattle.rules.proofs.Turns.{in-turn-nil, in-turn-yes, in-turn-no}
@@ -38,12 +38,22 @@ one-note : (c : Change) → RowChange c → length (noted c) ≡ 1
 one-note (added r) (by-added r') = refl
 one-note (removed r) (by-removed r') = refl
 one-note (replaced old new) (by-replaced o' n') = refl
+one-note (created _) x = elim x [ ]
+one-note (dropped _) x = elim x [ ]
+one-note opened x = elim x [ ]
+one-note kept x = elim x [ ]
+one-note (taken_back _) x = elim x [ ]
 
 note-is : (c : Change) (j : Journal) → RowChange c → note c j ≡ batch_of j.places (with_notes j (noted c))
 unfolding note
 note-is (added r) j (by-added r') = refl
 note-is (removed r) j (by-removed r') = refl
 note-is (replaced old new) j (by-replaced o' n') = refl
+note-is (created _) j x = elim x [ ]
+note-is (dropped _) j x = elim x [ ]
+note-is opened j x = elim x [ ]
+note-is kept j x = elim x [ ]
+note-is (taken_back _) j x = elim x [ ]
 
 -- one for each
 pub notes-length : (cs : List Change) → All RowChange cs → length (notes cs) ≡ length cs

@@ -6,7 +6,7 @@ ghost use Rattle.rules.specs.Request.{said, bare, ok, no, carried_by, no_carryin
 
 use values::value::{Text, Value};
 
-#[derive(Drop)]
+#[derive(Clone, Copy)]
 pub enum Refusal {
     Accepted,
     RecordBroken,
@@ -52,7 +52,7 @@ pub enum Refusal {
 }
 
 // `kind` says why, `count` is N, `at` and `gone` are AT and GONE; what 20 and 32 carry stands beside them.
-#[derive(Drop)]
+#[derive(Clone, Copy)]
 pub struct Answer {
     pub kind: Refusal,
     pub count: usize,

@@ -11,7 +11,7 @@ use rules::profile::Profile;
 
 // Bytes at hand, at the front of the input's buffer; bytes to pass over before the next record; row lines of the next record that are written; and
 // whether the input is at its end.
-#[derive(Drop)]
+#[derive(Clone, Copy)]
 pub struct Flow {
     pub have: usize,
     pub skip: usize,
@@ -20,7 +20,7 @@ pub struct Flow {
 }
 
 // What stands after a turn, and how far the run in it came.
-#[derive(Drop)]
+#[derive(Clone, Copy)]
 pub struct Turn {
     pub flow: Flow,
     pub ran: Ran,

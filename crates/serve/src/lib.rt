@@ -1,5 +1,6 @@
 // Records from one file, answered in lines to another over a lent store and its journal. Only reading, writing and keeping a log stand outside what is proved of
 // bytes: `flow` has the rest.
+#![tactic(auto)]
 pub mod flow; // what stands between two reads, and one turn: over slices alone
 
 ghost use Rattle.std.specs.Prelude.{◌≡◌, ◌<◌, ◌≤◌, true, false, length};
@@ -21,7 +22,7 @@ use sound::{fresh, journal_test};
 pub const NONE: i32 = -1;
 
 // How it came to an end.
-#[derive(Drop)]
+#[derive(Clone, Copy)]
 pub enum End {
     // every record of the input is answered
     Whole,
@@ -37,7 +38,7 @@ pub enum End {
 
 // What was done: records answered and bytes read; and of the input's last bytes how many are no whole record yet, or how many are missing of a
 // record of bad length.
-#[derive(Drop)]
+#[derive(Clone, Copy)]
 pub struct Report {
     pub end: End,
     pub records: u64,
@@ -47,14 +48,14 @@ pub struct Report {
 }
 
 // What came in is at hand, or why it is not.
-#[derive(Drop)]
+#[derive(Clone, Copy)]
 enum Piece {
     Kept,
     Lost(End),
 }
 
 // What stands when it came in, and how many bytes that were.
-#[derive(Drop)]
+#[derive(Clone, Copy)]
 struct Taken {
     flow: Flow,
     count: usize,
@@ -62,13 +63,13 @@ struct Taken {
 }
 
 // Behind the bytes at hand more are needed, or it is over.
-#[derive(Drop)]
+#[derive(Clone, Copy)]
 enum Pause {
     Waiting,
     Over(End),
 }
 
-#[derive(Drop)]
+#[derive(Clone, Copy)]
 struct Rest {
     flow: Flow,
     records: u64,

@@ -1,5 +1,6 @@
 // Tests lent stores for soundness: a list from standard input has one sound store and then cases, each some changed bytes and the verdict that it
 // must get. Shows a line for each case whose verdict is another, and at the end how many were sound, how many not, and how many were wrong.
+#![tactic(auto)]
 use areas::area;
 use libc::{STDIN_FILENO, STDOUT_FILENO};
 use sound::soundness;
@@ -43,7 +44,7 @@ fn say(word: &[u8], n: u64) {
     io::write_all(STDOUT_FILENO, b"\n");
 }
 
-#[derive(Drop)]
+#[derive(Clone, Copy)]
 struct Tally {
     pub sound: u64,
     pub unsound: u64,

@@ -21,7 +21,7 @@ use values::value::{Order, Text, Value};
 use values::{cell, value};
 
 // The first table that references another, and its first referencing column.
-#[derive(Drop)]
+#[derive(Clone, Copy)]
 pub struct Reference {
     pub found: bool,
     pub table: Text,

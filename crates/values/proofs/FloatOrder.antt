@@ -282,13 +282,17 @@ minus-left : (y : Float) → lt (of_bits binary64 (2 ^ 63)) y ≡ lt (of_bits bi
 unfolding lt of_bits of_fields
 minus-left nan = refl
 minus-left (inf v) = refl
-minus-left (fin v n d) = rw (zero-mul (down d)) (minus-first v (n * up d * 1))
+minus-left (fin v n d) =
+    let P : ℕ → Type 0 = λ z. below true z v (n * up d * 1) ≡ below false z v (n * up d * 1) in
+    subst P (sym (zero-mul (down d))) (minus-first v (n * up d * 1))
 
 minus-right : (x : Float) → lt x (of_bits binary64 (2 ^ 63)) ≡ lt x (of_bits binary64 0)
 unfolding lt of_bits of_fields
 minus-right nan = refl
 minus-right (inf v) = refl
-minus-right (fin v n d) = rw (zero-mul (down d)) (minus-second v (n * up d * 1))
+minus-right (fin v n d) =
+    let P : ℕ → Type 0 = λ z. below v (n * up d * 1) true z ≡ below v (n * up d * 1) false z in
+    subst P (sym (zero-mul (down d))) (minus-second v (n * up d * 1))
 
 module _ (b : ℕ) (l : b % 2 ^ 63 ≤ infinite) where
   as-normal : (f : Float → Bool) → f (of_bits binary64 (2 ^ 63)) ≡ f (of_bits binary64 0) → f (of_bits binary64 b) ≡ f (of_bits binary64 (normal_bits b))

@@ -11,7 +11,7 @@ ghost use Rattle.values.specs.Value.{cmp_value, kind_of, is_null, is_undefined, 
 ghost use Rattle.values.specs.Meaning.{text_bytes, Packed, meaning, Proper, ordering};
 
 // A text of at most 24 bytes: three words, the highest byte first, zeros past the length. A name is one too.
-#[derive(Drop)]
+#[derive(Clone, Copy)]
 pub struct Text {
     pub a: u64,
     pub b: u64,
@@ -19,7 +19,7 @@ pub struct Text {
     pub len: u8,
 }
 
-#[derive(Drop)]
+#[derive(Clone, Copy)]
 pub enum Value {
     Null,
     Boolean(bool),
@@ -29,13 +29,13 @@ pub enum Value {
 }
 
 // What readers give, writers and printers take and rows in flight hold.
-#[derive(Drop)]
+#[derive(Clone, Copy)]
 pub struct Cell {
     pub value: Value,
 }
 
 // How two things compare.
-#[derive(Drop)]
+#[derive(Clone, Copy)]
 pub enum Order {
     Less,
     Same,

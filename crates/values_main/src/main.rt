@@ -1,5 +1,6 @@
 // Reads values from standard input as a record has them and shows of each: how it is printed, the bytes of its cell, how it compares with the
 // value before it, and whether its cell, read back, is it again. What proofs say of every value is seen here at the edges.
+#![tactic(auto)]
 ghost use Rattle.values.specs.Meaning.{ProperCell};
 
 use forms::read::ReadCell;

@@ -22,7 +22,7 @@ use values::value::{Cell, Order, Text, Value};
 use values::{cell, value};
 
 // The first row found that refers to one of the keys: its table, that table's key column, its key.
-#[derive(Drop)]
+#[derive(Clone, Copy)]
 pub struct Referrer {
     pub found: bool,
     pub table: Text,

@@ -22,14 +22,14 @@ use values::value::{Cell, Order, Text, Value};
 use values::{cell, value};
 
 // The places of a table's rows: from the first on, before the last.
-#[derive(Drop)]
+#[derive(Clone, Copy)]
 pub struct Span {
     pub from: usize,
     pub to: usize,
 }
 
 // A key, if there is one.
-#[derive(Drop)]
+#[derive(Clone, Copy)]
 pub struct Next {
     pub found: bool,
     pub key: Cell,

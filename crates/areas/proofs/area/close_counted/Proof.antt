@@ -10,61 +10,61 @@ use borrow.Author.Rules.{rules}
 use Rattle.areas.proofs.area.close_counted.Statement.{statement}
 use Rattle.areas.proofs.area.close_counted.Tie as tie
 
-counted : (c : tie.After-get) → let a = c.before.before.before.before.args in count_at a.cat a.k a.s.now ≡ c.get.result
-counted c = let a = c.before.before.before.before.args in read_count a.s.now a.cat a.k c.get.result c.get.ensures
+counted : (c : tie.After-get-n) → let a = c.before.args in count_at a.cat a.k a.s.now ≡ c.get-n.result
+counted c = let a = c.before.args in read_count a.s.now a.cat a.k c.get-n.result c.get-n.ensures
 
-add-end : tie.Need-overflow-add-end
+add-end : tie.Need-overflow_add-end
 add-end c = search rules
 
-sub-get : tie.Need-overflow-sub-get
+sub-get : tie.Need-slice_bounds-get-count
 sub-get c = search rules
 
-part-get-start : tie.Need-slice-bounds-get-start
+part-get-start : tie.Need-slice_bounds-get-start
 part-get-start c = search rules
 
-part-get-end : tie.Need-slice-bounds-get-end
+part-get-end : tie.Need-slice_bounds-get-end
 part-get-end c = search rules
 
-get-requires : tie.Need-get-requires
+get-requires : tie.Need-get-n-requires
 get-requires c κs = search rules
 
-close-at-requires : tie.Need-close-at-requires
+close-at-requires : tie.Need-close_at-requires
 close-at-requires c κs =
-    let s = c.before.before.before.before.before in
+    let s = c.before in
     let a = s.args in
     subst (λ (n : ℕ). Taken a.s.now a.from a.places a.width n a.at a.run) (counted c.before) s.requires.taken
 
-sub-put : tie.Need-overflow-sub-put
+sub-put : tie.Need-slice_bounds-put-count
 sub-put c = search rules
 
-part-put-start : tie.Need-slice-bounds-put-start
+part-put-start : tie.Need-slice_bounds-put-start
 part-put-start c = search rules
 
-part-put-end : tie.Need-slice-bounds-put-end
+part-put-end : tie.Need-slice_bounds-put-end
 part-put-end c = search rules
 
-sub-put-2 : tie.Need-overflow-sub-put-2
+sub-put-2 : tie.Need-overflow_sub-n
 sub-put-2 c =
     let g = c.before.before.before.before.before in
-    omega (arith, counted g, g.before.before.before.before.requires.taken.run-le)
+    omega (arith, counted g, g.before.requires.taken.run-le)
 
 put-requires : tie.Need-put-requires
 put-requires c κs = search rules
 
-same_length : tie.Need-same-length
+same_length : tie.Need-shape_of-s
 same_length c = search rules
 
 returns : tie.Need-returns
 returns c =
     let i = c.before.before.before.before.before.before in
     let g = i.before.before in
-    let a = g.before.before.before.before.args in
-    let l : a.cat + a.k ≤ length i.close_at.new.0 = omega arith in
-    shrunk-back a.s.now i.close_at.new.0 c.before.before.put.new.0 a.cat a.k a.from a.places a.width a.at a.run
-    g.get.result g.get.ensures l c.before.before.put.ensures i.close_at.ensures
+    let a = g.before.args in
+    let l : a.cat + a.k ≤ length i.close_at.new.s = omega arith in
+    shrunk-back a.s.now i.close_at.new.s c.put.new.out a.cat a.k a.from a.places a.width a.at a.run
+    g.get-n.result g.get-n.ensures l c.put.ensures i.close_at.ensures
 
-pub close-counted-spec : {M : Type 1} → statement M
-close-counted-spec =
+pub close_counted_spec : {M : Type 1} → statement M
+close_counted_spec =
     tie.close
     (tie.spec
     add-end

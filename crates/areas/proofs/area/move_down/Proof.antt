@@ -11,37 +11,37 @@ use Rattle.values.proofs.Shifts.{lowered-start, lowered-step}
 use Rattle.areas.proofs.area.move_down.Statement.{statement}
 use Rattle.areas.proofs.area.move_down.Tie as tie
 
-abbrev invariant-loop : tie.invariant-loop
+abbrev invariant-loop : tie.invariant-loop-i
 invariant-loop area₀ at used width end i₀ area i = (at ≤ i) × (i ≤ end) × (end + width ≡ used) × (area ≡ lowered at i width area₀) × (length area ≡ length area₀)
 
-abbrev decreases-loop : tie.decreases-loop
+abbrev decreases-loop : tie.decreases-loop-i
 decreases-loop area₀ at used width end i₀ area i = end - i
 
-loop-holds : tie.Need-loop-init invariant-loop decreases-loop
+loop-holds : tie.Need-loop-i-init invariant-loop decreases-loop
 loop-holds c = (omega arith, omega arith, omega arith, lowered-start _ _ _, refl)
 
-sub-end : tie.Need-overflow-sub-end invariant-loop decreases-loop
+sub-end : tie.Need-overflow_sub-end invariant-loop decreases-loop
 sub-end c = omega arith
 
-slice-read-area : tie.Need-slice-read-area invariant-loop decreases-loop
+slice-read-area : tie.Need-bounds-area-i invariant-loop decreases-loop
 slice-read-area c = omega arith
 
-add-area : tie.Need-overflow-add-area invariant-loop decreases-loop
+add-area : tie.Need-overflow_add-area invariant-loop decreases-loop
 add-area c = omega arith
 
-slice-write-area : tie.Need-slice-write-area invariant-loop decreases-loop
+slice-write-area : tie.Need-bounds-area-i-in-loop-i invariant-loop decreases-loop
 slice-write-area c = omega arith
 
-add-i : tie.Need-overflow-add-i invariant-loop decreases-loop
+add-i : tie.Need-overflow_add-i invariant-loop decreases-loop
 add-i c = omega arith
 
-loop-less : tie.Need-loop-smaller invariant-loop decreases-loop
+loop-less : tie.Need-loop-i-smaller invariant-loop decreases-loop
 loop-less c = omega arith
 
-loop-again : tie.Need-loop-preserved invariant-loop decreases-loop
+loop-again : tie.Need-loop-i-preserved invariant-loop decreases-loop
 loop-again c =
-    let a = c.before.before.before.args in
-    let v = c.before.before.loop in (
+    let a = c.args in
+    let v = c.loop-i in (
       omega arith,
       omega arith,
       omega arith,
@@ -50,13 +50,13 @@ loop-again c =
       simp length-set (omega arith),
     )
 
-same_length : tie.Need-same-length invariant-loop decreases-loop
+same_length : tie.Need-shape_of-area invariant-loop decreases-loop
 same_length c = search rules
 
 returns : tie.Need-returns invariant-loop decreases-loop
 returns c =
-    let v = c.before.loop in
-    let a = c.before.before.args in
+    let v = c.loop-i in
+    let a = c.args in
     let e : v.i ≡ a.used - a.width = omega arith in
     rw (← e) v.invariant.3
 

@@ -10,35 +10,35 @@ use Rattle.values.proofs.Shifts.{raised-start, raised-back}
 use Rattle.areas.proofs.area.move_up.Statement.{statement}
 use Rattle.areas.proofs.area.move_up.Tie as tie
 
-abbrev invariant-loop : tie.invariant-loop
+abbrev invariant-loop : tie.invariant-loop-i
 invariant-loop area₀ at used width i₀ area i = (at ≤ i) × (i ≤ used) × (area ≡ raised i used width area₀) × (length area ≡ length area₀)
 
-abbrev decreases-loop : tie.decreases-loop
+abbrev decreases-loop : tie.decreases-loop-i
 decreases-loop area₀ at used width i₀ area i = i
 
-loop-holds : tie.Need-loop-init invariant-loop decreases-loop
+loop-holds : tie.Need-loop-i-init invariant-loop decreases-loop
 loop-holds c = (c.requires.at-le, omega arith, raised-start _ _ _, refl)
 
-sub-i : tie.Need-overflow-sub-i invariant-loop decreases-loop
+sub-i : tie.Need-overflow_sub-i invariant-loop decreases-loop
 sub-i c = omega arith
 
-slice-read-area : tie.Need-slice-read-area invariant-loop decreases-loop
+slice-read-area : tie.Need-bounds-area-i invariant-loop decreases-loop
 slice-read-area c = omega arith
 
-add-area : tie.Need-overflow-add-area invariant-loop decreases-loop
+add-area : tie.Need-overflow_add-area invariant-loop decreases-loop
 add-area c = omega arith
 
-slice-write-area : tie.Need-slice-write-area invariant-loop decreases-loop
+slice-write-area : tie.Need-bounds-area-i-in-loop-i invariant-loop decreases-loop
 slice-write-area c = omega arith
 
-loop-less : tie.Need-loop-smaller invariant-loop decreases-loop
+loop-less : tie.Need-loop-i-smaller invariant-loop decreases-loop
 loop-less c = omega arith
 
-loop-again : tie.Need-loop-preserved invariant-loop decreases-loop
+loop-again : tie.Need-loop-i-preserved invariant-loop decreases-loop
 loop-again c =
-    let a = c.before.before.before.args in
-    let v = c.before.before.loop in
-    let p = c.before.before.before.requires in (
+    let a = c.args in
+    let v = c.loop-i in
+    let p = c.requires in (
       omega arith,
       omega arith,
       ap (λ (l : List ℕ). set l (v.i - 1 + a.width) (get_or l (v.i - 1) 0)) v.invariant.2
@@ -46,13 +46,13 @@ loop-again c =
       simp length-set (omega arith),
     )
 
-same_length : tie.Need-same-length invariant-loop decreases-loop
+same_length : tie.Need-shape_of-area invariant-loop decreases-loop
 same_length c = search rules
 
 returns : tie.Need-returns invariant-loop decreases-loop
 returns c =
-    let v = c.before.loop in
-    let e : v.i ≡ c.before.before.args.at = omega arith in
+    let v = c.loop-i in
+    let e : v.i ≡ c.args.at = omega arith in
     rw (← e) v.invariant.2
 
 pub move_up_spec : {M : Type 1} → statement M

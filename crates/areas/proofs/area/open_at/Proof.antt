@@ -10,43 +10,43 @@ use Rattle.areas.proofs.area.open_at.Tie as tie
 room : (c : tie.Start) → let a = c.args in (a.at * a.width ≤ a.count * a.width) × (a.count * a.width + a.width ≤ a.places * a.width)
 room c = let a = c.args in spare-place a.s.now a.from a.places a.count a.at a.width c.requires
 
-mul-to : tie.Need-overflow-mul-to
+mul-to : tie.Need-overflow_mul-to
 mul-to c = search rules
 
-add-to : tie.Need-overflow-add-to
+add-to : tie.Need-overflow_add-to
 add-to c = search rules
 
-mul-p : tie.Need-overflow-mul-p
+mul-p : tie.Need-overflow_mul-p
 mul-p c = omega (arith, room c.before)
 
-mul-used : tie.Need-overflow-mul-used
+mul-used : tie.Need-overflow_mul-used
 mul-used c = omega (arith, room c.before)
 
-sub-open-place : tie.Need-overflow-sub-open-place
+sub-open-place : tie.Need-slice_bounds-open_place-count
 sub-open-place c = search rules
 
-part-open-place-start : tie.Need-slice-bounds-open-place-start
+part-open-place-start : tie.Need-slice_bounds-open_place-start
 part-open-place-start c = search rules
 
-part-open-place-end : tie.Need-slice-bounds-open-place-end
+part-open-place-end : tie.Need-slice_bounds-open_place-end
 part-open-place-end c = search rules
 
-open-place-requires : tie.Need-open-place-requires
+open-place-requires : tie.Need-open_place-requires
 open-place-requires c κs =
     let s = c.before.before in
     let a = s.args in
     spare-room a.s.now a.from a.places a.count a.at a.width s.requires
 
-same_length : tie.Need-same-length
+same_length : tie.Need-shape_of-s
 same_length c = search rules
 
 returns : tie.Need-returns
 returns c =
-    let a = c.before.before.before.before.before.args in
-    inserted-back a.s.now a.from a.places a.count a.at a.width (replicate a.width 0) c.before.before.open-place.new.0 (length-replicate a.width 0) c.before.before.open-place.ensures
+    let a = c.args in
+    inserted-back a.s.now a.from a.places a.count a.at a.width (replicate a.width 0) c.open_place.new.area (length-replicate a.width 0) c.open_place.ensures
 
-pub open-at-spec : {M : Type 1} → statement M
-open-at-spec =
+pub open_at_spec : {M : Type 1} → statement M
+open_at_spec =
     tie.close
     (tie.spec
     mul-to

@@ -10,61 +10,61 @@ use borrow.Author.Rules.{rules}
 use Rattle.areas.proofs.area.open_counted.Statement.{statement}
 use Rattle.areas.proofs.area.open_counted.Tie as tie
 
-counted : (c : tie.After-get) → let a = c.before.before.before.before.args in count_at a.cat a.k a.s.now ≡ c.get.result
-counted c = let a = c.before.before.before.before.args in read_count a.s.now a.cat a.k c.get.result c.get.ensures
+counted : (c : tie.After-get-n) → let a = c.before.args in count_at a.cat a.k a.s.now ≡ c.get-n.result
+counted c = let a = c.before.args in read_count a.s.now a.cat a.k c.get-n.result c.get-n.ensures
 
-add-end : tie.Need-overflow-add-end
+add-end : tie.Need-overflow_add-end
 add-end c = search rules
 
-sub-get : tie.Need-overflow-sub-get
+sub-get : tie.Need-slice_bounds-get-count
 sub-get c = search rules
 
-part-get-start : tie.Need-slice-bounds-get-start
+part-get-start : tie.Need-slice_bounds-get-start
 part-get-start c = search rules
 
-part-get-end : tie.Need-slice-bounds-get-end
+part-get-end : tie.Need-slice_bounds-get-end
 part-get-end c = search rules
 
-get-requires : tie.Need-get-requires
+get-requires : tie.Need-get-n-requires
 get-requires c κs = search rules
 
-open-at-requires : tie.Need-open-at-requires
+open-at-requires : tie.Need-open_at-requires
 open-at-requires c κs =
-    let s = c.before.before.before.before.before in
+    let s = c.before in
     let a = s.args in
     subst (λ (n : ℕ). Spare a.s.now a.from a.places n a.at a.width) (counted c.before) s.requires.spare
 
-sub-put : tie.Need-overflow-sub-put
+sub-put : tie.Need-slice_bounds-put-count
 sub-put c = search rules
 
-part-put-start : tie.Need-slice-bounds-put-start
+part-put-start : tie.Need-slice_bounds-put-start
 part-put-start c = search rules
 
-part-put-end : tie.Need-slice-bounds-put-end
+part-put-end : tie.Need-slice_bounds-put-end
 part-put-end c = search rules
 
-add-put : tie.Need-overflow-add-put
+add-put : tie.Need-overflow_add-n
 add-put c =
     let g = c.before.before.before.before.before in
-    omega (arith, counted g, g.before.before.before.before.requires.spare.room)
+    omega (arith, counted g, g.before.requires.spare.room)
 
 put-requires : tie.Need-put-requires
 put-requires c κs = search rules
 
-same_length : tie.Need-same-length
+same_length : tie.Need-shape_of-s
 same_length c = search rules
 
 returns : tie.Need-returns
 returns c =
     let i = c.before.before.before.before.before.before in
     let g = i.before.before in
-    let a = g.before.before.before.before.args in
-    let l : a.cat + a.k ≤ length i.open_at.new.0 = omega arith in
-    grown-back a.s.now i.open_at.new.0 c.before.before.put.new.0 (replicate a.width 0) a.cat a.k a.from a.places a.at
-    g.get.result g.get.ensures l c.before.before.put.ensures i.open_at.ensures
+    let a = g.before.args in
+    let l : a.cat + a.k ≤ length i.open_at.new.s = omega arith in
+    grown-back a.s.now i.open_at.new.s c.put.new.out (replicate a.width 0) a.cat a.k a.from a.places a.at
+    g.get-n.result g.get-n.ensures l c.put.ensures i.open_at.ensures
 
-pub open-counted-spec : {M : Type 1} → statement M
-open-counted-spec =
+pub open_counted_spec : {M : Type 1} → statement M
+open_counted_spec =
     tie.close
     (tie.spec
     add-end

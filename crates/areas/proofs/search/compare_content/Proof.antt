@@ -12,23 +12,23 @@ use borrow.Author.Rules.{rules}
 use Rattle.areas.proofs.search.compare_content.Statement.{statement}
 use Rattle.areas.proofs.search.compare_content.Tie as tie
 
-abbrev start : tie.After-compare-words → tie.Start
+abbrev start : tie.After-compare_words → tie.Start
 start c = c.before.before.before.before.before
 
-abbrev rec_of : tie.After-compare-words → List ℕ
+abbrev rec_of : tie.After-compare_words → List ℕ
 rec_of c = (start c).args.rec.now
 
 -- the number, which stands before them
-number : (c : tie.After-compare-words) → ordering c.compare-words.result ≡ compare (get_or (rec_of c) 25 0) (start c).args.column
+number : (c : tie.After-compare_words) → ordering c.compare_words.result ≡ compare (get_or (rec_of c) 25 0) (start c).args.column
 number c =
     let b = c.before in
-    c.compare-words.ensures ∙ (ap (λ (n : ℕ). compare n b.wide2.result) b.before.wide.ensures ∙ ap (compare (get_or (rec_of c) 25 0)) b.wide2.ensures)
+    c.compare_words.ensures ∙ (ap (λ (n : ℕ). compare n b.wide-2.result) b.wide.ensures ∙ ap (compare (get_or (rec_of c) 25 0)) b.wide-2.ensures)
 
 -- the first of the two values
-stored : (c : tie.After-compare) → let s = c.before.before.before.before.before in ordering c.compare.result ≡ cmp_value (read_value (drop 26 (rec_of s))) (meaning (start s).args.v)
-stored c = rest-compared _ _ _ (rec_of c.before.before.before.before.before) 26 c.before.read_cell.ensures.0 c.compare.ensures
+stored : (c : tie.After-compare) → let s = c.before.before.before.before in ordering c.compare.result ≡ cmp_value (read_value (drop 26 (rec_of s))) (meaning (start s).args.v)
+stored c = rest-compared _ _ _ (rec_of c.before.before.before.before) 26 c.read_cell-c.ensures.0 c.compare.ensures
 
-shared-slice-read-wide : tie.Need-shared-slice-read-wide
+shared-slice-read-wide : tie.Need-bounds-rec-25
 shared-slice-read-wide c = search rules
 
 wide-requires : tie.Need-wide-requires
@@ -37,91 +37,91 @@ wide-requires c κs = tt
 wide-requires-2 : tie.Need-wide-requires-2
 wide-requires-2 c κs = tt
 
-compare-words-requires : tie.Need-compare-words-requires
+compare-words-requires : tie.Need-compare_words-requires
 compare-words-requires c κs = tt
 
-enum_told : tie.Need-enum-told
+enum_told : tie.Need-enum_told-1
 enum_told c = search rules
 
-enum-told-2 : tie.Need-enum-told-2
+enum-told-2 : tie.Need-enum_told-in-More
 enum-told-2 c = search rules
 
-enum-told-3 : tie.Need-enum-told-3
+enum-told-3 : tie.Need-enum_told-in-Same
 enum-told-3 c = search rules
 
-sub-read-cell : tie.Need-overflow-sub-read-cell
+sub-read-cell : tie.Need-slice_bounds-read_cell-count
 sub-read-cell c = search rules
 
-part-read-cell-start : tie.Need-slice-bounds-read-cell-start
+part-read-cell-start : tie.Need-slice_bounds-read_cell-start
 part-read-cell-start c = search rules
 
-part-read-cell-end : tie.Need-slice-bounds-read-cell-end
+part-read-cell-end : tie.Need-slice_bounds-read_cell-end
 part-read-cell-end c = search rules
 
-read-cell-requires : tie.Need-read-cell-requires
+read-cell-requires : tie.Need-read_cell-c-requires
 read-cell-requires c κs = search rules
 
 compare-requires : tie.Need-compare-requires
 compare-requires c κs = search rules
 
-enum-told-4 : tie.Need-enum-told-4
+enum-told-4 : tie.Need-enum_told-in-Less-compare
 enum-told-4 c = search rules
 
-enum-told-5 : tie.Need-enum-told-5
+enum-told-5 : tie.Need-enum_told-in-More-compare
 enum-told-5 c = search rules
 
-enum-told-6 : tie.Need-enum-told-6
+enum-told-6 : tie.Need-enum_told-in-Same-compare
 enum-told-6 c = search rules
 
-sub-read-cell-2 : tie.Need-overflow-sub-read-cell-2
+sub-read-cell-2 : tie.Need-slice_bounds-read_cell-count-in-Same-compare
 sub-read-cell-2 c = search rules
 
-part-read-cell-start-2 : tie.Need-slice-bounds-read-cell-start-2
+part-read-cell-start-2 : tie.Need-slice_bounds-read_cell-start-in-Same-compare
 part-read-cell-start-2 c = search rules
 
-part-read-cell-end-2 : tie.Need-slice-bounds-read-cell-end-2
+part-read-cell-end-2 : tie.Need-slice_bounds-read_cell-end-in-Same-compare
 part-read-cell-end-2 c = search rules
 
-read-cell-requires-2 : tie.Need-read-cell-requires-2
+read-cell-requires-2 : tie.Need-read_cell-d-requires
 read-cell-requires-2 c κs = search rules
 
-compare-requires-2 : tie.Need-compare-requires-2
+compare-requires-2 : tie.Need-compare-requires-in-Same-compare
 compare-requires-2 c κs = search rules
 
-returns : tie.Need-returns
+returns : tie.Need-returns-in-Less
 unfolding cmp_content
-returns c = is-less _ _ _ (number c.before.before) c.enum_told.given.1
+returns c = is-less _ _ _ (number c.before) c.in-Less.is
 
-returns-2 : tie.Need-returns-2
+returns-2 : tie.Need-returns-in-More
 unfolding cmp_content
-returns-2 c = is-more _ _ _ (number c.before.before) c.enum-told2.given.1
+returns-2 c = is-more _ _ _ (number c.before) c.in-More.is
 
-returns-3 : tie.Need-returns-3
+returns-3 : tie.Need-returns-in-Less-compare
 unfolding cmp_content
 returns-3 c =
-    let b = c.before.before in
+    let b = c.before in
     let told = b.before.before.before in
-    is_same_lem _ _ _ (number told.before.before) _ told.enum-told3.given.1 (is-less _ _ _ (stored b) c.enum-told4.given.1)
+    is_same_lem _ _ _ (number told.before) _ told.in-Same.is (is-less _ _ _ (stored b) c.in-Less-compare.is)
 
-returns-4 : tie.Need-returns-4
+returns-4 : tie.Need-returns-in-More-compare
 unfolding cmp_content
 returns-4 c =
-    let b = c.before.before in
+    let b = c.before in
     let told = b.before.before.before in
-    is_same_lem _ _ _ (number told.before.before) _ told.enum-told3.given.1 (is-more _ _ _ (stored b) c.enum-told5.given.1)
+    is_same_lem _ _ _ (number told.before) _ told.in-Same.is (is-more _ _ _ (stored b) c.in-More-compare.is)
 
-returns-5 : tie.Need-returns-5
+returns-5 : tie.Need-returns-in-Same-compare
 unfolding cmp_content
 returns-5 c =
     let told2 = c.before.before.before in
-    let b = told2.before.before in
+    let b = told2.before in
     let told = b.before.before.before in
-    is_same_lem _ _ _ (number told.before.before) _ told.enum-told3.given.1
-    (is_same_lem _ _ _ (stored b) _ told2.enum-told6.given.1
-    (rest-compared _ _ _ (rec_of told.before.before) 52 c.before.read-cell2.ensures.0 c.compare2.ensures))
+    is_same_lem _ _ _ (number told.before) _ told.in-Same.is
+    (is_same_lem _ _ _ (stored b) _ told2.in-Same-compare.is
+    (rest-compared _ _ _ (rec_of told.before) 52 c.read_cell-d.ensures.0 c.compare-in-Same-compare.ensures))
 
-pub compare-content-spec : {M : Type 1} → statement M
-compare-content-spec =
+pub compare_content_spec : {M : Type 1} → statement M
+compare_content_spec =
     tie.close
     (tie.spec
     shared-slice-read-wide

@@ -5,37 +5,37 @@ use borrow.Author.Rules.{rules}
 use Rattle.areas.proofs.search.compare_entered.Statement.{statement}
 use Rattle.areas.proofs.search.compare_entered.Tie as tie
 
-compare-named-requires : tie.Need-compare-named-requires
+compare-named-requires : tie.Need-compare_named-requires
 compare-named-requires c κs = search rules
 
-enum_told : tie.Need-enum-told
+enum_told : tie.Need-enum_told-1
 enum_told c = search rules
 
-enum-told-2 : tie.Need-enum-told-2
+enum-told-2 : tie.Need-enum_told-in-More
 enum-told-2 c = search rules
 
-enum-told-3 : tie.Need-enum-told-3
+enum-told-3 : tie.Need-enum_told-in-Same
 enum-told-3 c = search rules
 
-compare-content-requires : tie.Need-compare-content-requires
+compare-content-requires : tie.Need-compare_content-requires
 compare-content-requires c κs = search rules
 
-returns : tie.Need-returns
+returns : tie.Need-returns-in-Less
 unfolding cmp_entered
-returns c = is-less _ _ _ c.before.before.compare-named.ensures c.enum_told.given.1
+returns c = is-less _ _ _ c.compare_named.ensures c.in-Less.is
 
-returns-2 : tie.Need-returns-2
+returns-2 : tie.Need-returns-in-More
 unfolding cmp_entered
-returns-2 c = is-more _ _ _ c.before.before.compare-named.ensures c.enum-told2.given.1
+returns-2 c = is-more _ _ _ c.compare_named.ensures c.in-More.is
 
-returns-3 : tie.Need-returns-3
+returns-3 : tie.Need-returns-in-Same
 unfolding cmp_entered
 returns-3 c =
     let told = c.before in
-    is_same_lem _ _ _ told.before.before.compare-named.ensures _ told.enum-told3.given.1 c.compare-content.ensures
+    is_same_lem _ _ _ told.compare_named.ensures _ told.in-Same.is c.compare_content.ensures
 
-pub compare-entered-spec : {M : Type 1} → statement M
-compare-entered-spec =
+pub compare_entered_spec : {M : Type 1} → statement M
+compare_entered_spec =
     tie.close
     (tie.spec
     compare-named-requires

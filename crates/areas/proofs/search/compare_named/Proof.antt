@@ -4,15 +4,15 @@ use borrow.Author.Rules.{rules}
 use Rattle.areas.proofs.search.compare_named.Statement.{statement}
 use Rattle.areas.proofs.search.compare_named.Tie as tie
 
-read-name-requires : tie.Need-read-name-requires
+read-name-requires : tie.Need-read_name-requires
 read-name-requires c κs = search rules
 
-compare-texts-requires : tie.Need-compare-texts-requires
+compare-texts-requires : tie.Need-compare_texts-requires
 compare-texts-requires c κs = search rules
 
 returns : tie.Need-returns
 unfolding cmp_named
-returns c = rw (← c.before.read_name.ensures.0) c.compare-texts.ensures
+returns c = rw (← c.read_name.ensures.0) c.compare_texts.ensures
 
-pub compare-named-spec : {M : Type 1} → statement M
-compare-named-spec = tie.close (tie.spec read-name-requires compare-texts-requires returns)
+pub compare_named_spec : {M : Type 1} → statement M
+compare_named_spec = tie.close (tie.spec read-name-requires compare-texts-requires returns)

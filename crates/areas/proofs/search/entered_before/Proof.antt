@@ -14,81 +14,81 @@ use Rattle.areas.proofs.Halving.{Bracket, bracket-start, bracket-up, bracket-dow
 use Rattle.areas.proofs.search.entered_before.Statement.{statement}
 use Rattle.areas.proofs.search.entered_before.Tie as tie
 
-abbrev invariant-loop : tie.invariant-loop
+abbrev invariant-loop : tie.invariant-loop-lo
 invariant-loop area count width name column v key lo₀ hi₀ lo hi = Bracket (λ r. cmp_entered cell_width r (text_bytes name) column (meaning v) (meaning key)) area count width lo hi
 
-abbrev decreases-loop : tie.decreases-loop
+abbrev decreases-loop : tie.decreases-loop-lo
 decreases-loop area count width name column v key lo₀ hi₀ lo hi = hi - lo
 
 -- the middle place lies within the area
-within : (c : tie.In-loop invariant-loop decreases-loop) →
-    let v = c.before.loop in
-    let a = c.before.before.before.args in
+within : (c : tie.In-loop-lo invariant-loop decreases-loop) →
+    let v = c.loop-lo in
+    let a = c.args in
     (v.lo + (v.hi - v.lo) / 2) * a.width + a.width ≤ length a.area.now
-within c = middle-fits _ _ _ _ _ _ c.before.loop.invariant c.loop-test.true c.before.before.before.requires.1
+within c = middle-fits _ _ _ _ _ _ c.loop-lo.invariant c.loop-lo-test.true c.requires.1
 
-loop-holds : tie.Need-loop-init invariant-loop decreases-loop
+loop-holds : tie.Need-loop-lo-init invariant-loop decreases-loop
 loop-holds c = bracket-start _ _ _ _
 
-sub-mid : tie.Need-overflow-sub-mid invariant-loop decreases-loop
+sub-mid : tie.Need-overflow_sub-mid invariant-loop decreases-loop
 sub-mid c = omega arith
 
-add-mid : tie.Need-overflow-add-mid invariant-loop decreases-loop
+add-mid : tie.Need-overflow_add-mid invariant-loop decreases-loop
 add-mid c = omega arith
 
-mul-p : tie.Need-overflow-mul-p invariant-loop decreases-loop
+mul-p : tie.Need-overflow_mul-p invariant-loop decreases-loop
 mul-p c = omega (arith, within c)
 
-add-q : tie.Need-overflow-add-q invariant-loop decreases-loop
+add-q : tie.Need-overflow_add-q invariant-loop decreases-loop
 add-q c = omega (arith, within c)
 
-sub-compare-entered : tie.Need-overflow-sub-compare-entered invariant-loop decreases-loop
+sub-compare-entered : tie.Need-slice_bounds-compare_entered-count invariant-loop decreases-loop
 sub-compare-entered c = omega arith
 
-part-compare-entered-start : tie.Need-slice-bounds-compare-entered-start invariant-loop decreases-loop
+part-compare-entered-start : tie.Need-slice_bounds-compare_entered-start invariant-loop decreases-loop
 part-compare-entered-start c = omega arith
 
-part-compare-entered-end : tie.Need-slice-bounds-compare-entered-end invariant-loop decreases-loop
+part-compare-entered-end : tie.Need-slice_bounds-compare_entered-end invariant-loop decreases-loop
 part-compare-entered-end c = within c
 
-compare-entered-requires : tie.Need-compare-entered-requires invariant-loop decreases-loop
+compare-entered-requires : tie.Need-compare_entered-requires invariant-loop decreases-loop
 compare-entered-requires c κs =
     let t = c.before in
     let s = t.before.before.before in
     let p = s.requires.0 in
-    (middle-holds _ _ _ _ _ _ t.before.loop.invariant t.loop-test.true s.requires.1 _ p.0, p.1, p.2, p.3)
+    (middle-holds _ _ _ _ _ _ t.loop-lo.invariant t.loop-lo-test.true s.requires.1 _ p.0, p.1, p.2, p.3)
 
-enum_told : tie.Need-enum-told invariant-loop decreases-loop
+enum_told : tie.Need-enum_told-1 invariant-loop decreases-loop
 enum_told c = search rules
 
-add-lo : tie.Need-overflow-add-lo invariant-loop decreases-loop
+add-lo : tie.Need-overflow_add-lo invariant-loop decreases-loop
 add-lo c = omega arith
 
-loop-less : tie.Need-loop-smaller invariant-loop decreases-loop
-loop-less c = up-less _ _ c.before.before.before.before.loop-test.true
+loop-less : tie.Need-loop-lo-smaller-in-Less invariant-loop decreases-loop
+loop-less c = up-less _ _ c.loop-lo-test.true
 
-loop-again : tie.Need-loop-preserved invariant-loop decreases-loop
+loop-again : tie.Need-loop-lo-preserved-in-Less invariant-loop decreases-loop
 loop-again c =
-    let asked = c.before.before in
+    let asked = c.before in
     let turn = asked.before.before in
-    bracket-up _ _ _ _ _ _ turn.before.loop.invariant turn.loop-test.true turn.before.before.before.requires.1 _ asked.compare-entered.ensures
-    (ap (λ (o : Order). is_lt (ordering o)) c.enum_told.given.1)
+    bracket-up _ _ _ _ _ _ turn.loop-lo.invariant turn.loop-lo-test.true turn.requires.1 _ asked.compare_entered.ensures
+    (ap (λ (o : Order). is_lt (ordering o)) c.in-Less.is)
 
-loop-less-2 : tie.Need-loop-smaller-2 invariant-loop decreases-loop
-loop-less-2 c = down-less _ _ c.before.before.before.loop-test.true
+loop-less-2 : tie.Need-loop-lo-smaller invariant-loop decreases-loop
+loop-less-2 c = down-less _ _ c.loop-lo-test.true
 
-loop-again-2 : tie.Need-loop-preserved-2 invariant-loop decreases-loop
+loop-again-2 : tie.Need-loop-lo-preserved invariant-loop decreases-loop
 loop-again-2 c =
     let asked = c.before in
     let turn = asked.before.before in
-    bracket-down _ _ _ _ _ _ turn.before.loop.invariant turn.loop-test.true turn.before.before.before.requires.1 _ asked.compare-entered.ensures
-    (not-less asked.compare-entered.result c.match.keys2)
+    bracket-down _ _ _ _ _ _ turn.loop-lo.invariant turn.loop-lo-test.true turn.requires.1 _ asked.compare_entered.ensures
+    (not-less asked.compare_entered.result c.in_default.in_default-own.keys2)
 
 returns : tie.Need-returns invariant-loop decreases-loop
-returns c = bracket-end _ _ _ _ _ _ c.before.loop.invariant c.loop-test.false
+returns c = bracket-end _ _ _ _ _ _ c.loop-lo.invariant c.loop-lo-test.false
 
-pub entered-before-spec : {M : Type 1} → statement M
-entered-before-spec =
+pub entered_before_spec : {M : Type 1} → statement M
+entered_before_spec =
     tie.close
     (tie.spec
     invariant-loop

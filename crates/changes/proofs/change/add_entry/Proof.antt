@@ -12,84 +12,84 @@ use Rattle.changes.proofs.change.add_entry.Statement.{statement}
 use Rattle.changes.proofs.change.add_entry.Tie as tie
 
 -- the place that was opened lies inside
-room : (c : tie.After-slice-known2) → let w = c.before.before.before.before.before in w.before.entries_at.result + w.before.before.entry-rank.result * w.entry-width.result + w.entry-width.result ≤ length c.before.before.open-counted.new.0
+room : (c : tie.After-slice_known-2-1) → let w = c.before.before.before.before.before in w.entries_at-from.result + w.entry_rank-i.result * w.entry_width-width.result + w.entry_width-width.result ≤ length c.open_counted.new.s
 room c =
-    let b = c.before.before.before.before.before.before.before.before.before.before in
+    let b = c.before in
     let a = b.args in
-    let i = c.before.before.before.before.before.before.before.entry-rank in
-    let f = c.before.before.before.before.before.before.entries_at in
-    let w = c.before.before.before.before.before.entry-width in
-    let o = c.before.before.open-counted in
+    let i = c.entry_rank-i in
+    let f = c.entries_at-from in
+    let w = c.entry_width-width in
+    let o = c.open_counted in
     entry-room a.p a.places a.s.now b.requires.0 (entry_of a.name a.column a.v a.key) f.result w.result (a.p.entries * a.places) i.result f.ensures w.ensures refl i.ensures b.requires.2 o.new.0 o.ensures
 
-entry-rank-requires : tie.Need-entry-rank-requires
+entry-rank-requires : tie.Need-entry_rank-i-requires
 entry-rank-requires c κs = search rules
 
-entries-at-requires : tie.Need-entries-at-requires
+entries-at-requires : tie.Need-entries_at-from-requires
 entries-at-requires c κs = search rules
 
-entry-width-requires : tie.Need-entry-width-requires
+entry-width-requires : tie.Need-entry_width-width-requires
 entry-width-requires c κs = search rules
 
-mul_most : tie.Need-overflow-mul-most
+mul_most : tie.Need-overflow_mul-most
 mul_most c =
-    let b = c.before.before.before.before.before.before in
+    let b = c.before in
     let a = b.args in
     omega (arith, entries-most a.p b.requires.0.coded.known a.places b.requires.0.places)
 
-open-counted-requires : tie.Need-open-counted-requires
+open-counted-requires : tie.Need-open_counted-requires
 open-counted-requires c κs =
-    let b = c.before.before.before.before.before.before.before in
+    let b = c.before in
     let a = b.args in
-    let i = c.before.before.before.before.entry-rank in
-    let f = c.before.before.before.entries_at in
-    let w = c.before.before.entry-width in
+    let i = c.entry_rank-i in
+    let f = c.entries_at-from in
+    let w = c.entry_width-width in
     entry-grows a.p a.places a.s.now b.requires.0 (entry_of a.name a.column a.v a.key) f.result w.result (a.p.entries * a.places) i.result f.ensures w.ensures refl i.ensures b.requires.2
 
-mul-a : tie.Need-overflow-mul-a
+mul-a : tie.Need-overflow_mul-a
 mul-a c = omega (arith, room c)
 
-add_a : tie.Need-overflow-add-a
+add_a : tie.Need-overflow_add-a
 add_a c = omega (arith, room c)
 
-add-e : tie.Need-overflow-add-e
+add-e : tie.Need-overflow_add-e
 add-e c = omega (arith, room c)
 
-sub-write-entry : tie.Need-overflow-sub-write-entry
+sub-write-entry : tie.Need-slice_bounds-write_entry-count
 sub-write-entry c = search rules
 
-part-write-entry-start : tie.Need-slice-bounds-write-entry-start
+part-write-entry-start : tie.Need-slice_bounds-write_entry-start
 part-write-entry-start c = search rules
 
-part-write-entry-end : tie.Need-slice-bounds-write-entry-end
+part-write-entry-end : tie.Need-slice_bounds-write_entry-end
 part-write-entry-end c = omega (arith, room c)
 
-write-entry-requires : tie.Need-write-entry-requires
+write-entry-requires : tie.Need-write_entry-requires
 write-entry-requires c κs =
-    let b = c.before.before.before.before.before.before.before.before.before.before.before in
+    let b = c.before in
     let a = b.args in
-    let i = c.before.before.before.before.before.before.before.before.entry-rank in
-    let f = c.before.before.before.before.before.before.before.entries_at in
-    let w = c.before.before.before.before.before.before.entry-width in
-    let o = c.before.before.before.open-counted in
+    let i = c.entry_rank-i in
+    let f = c.entries_at-from in
+    let w = c.entry_width-width in
+    let o = c.open_counted in
     (place-wide a.p a.places a.s.now b.requires.0 (entry_of a.name a.column a.v a.key) f.result w.result (a.p.entries * a.places) i.result f.ensures w.ensures refl i.ensures b.requires.2 o.new.0 o.ensures, b.requires.1)
 
-same_length : tie.Need-same-length
+same_length : tie.Need-shape_of-s
 same_length c = search rules
 
 returns : tie.Need-returns
 returns c =
-    let b = c.before.before.before.before.before.before.before.before.before.before.before.before.before.before in
+    let b = c.before in
     let a = b.args in
-    let i = c.before.before.before.before.before.before.before.before.before.before.before.entry-rank in
-    let f = c.before.before.before.before.before.before.before.before.before.before.entries_at in
-    let w = c.before.before.before.before.before.before.before.before.before.entry-width in
-    let o = c.before.before.before.before.before.before.open-counted in
-    let y = c.before.before.write-entry in
+    let i = c.entry_rank-i in
+    let f = c.entries_at-from in
+    let w = c.entry_width-width in
+    let o = c.open_counted in
+    let y = c.write_entry in
     entry-placed a.p a.places a.s.now b.requires.0 (entry_of a.name a.column a.v a.key) f.result w.result (a.p.entries * a.places) i.result f.ensures w.ensures refl i.ensures b.requires.2 o.new.0 o.ensures y.new.0 y.ensures (ap length y.ensures ∙ entry-long a.name a.column a.v a.key b.requires.1)
 
-pub add-entry-spec : {M : Type 1} → statement M
-add-entry-spec =
+pub add_entry_spec : {M : Type 1} → statement M
+add_entry_spec =
     tie.close
     (tie.spec
     entry-rank-requires

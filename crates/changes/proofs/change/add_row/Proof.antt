@@ -6,10 +6,10 @@ use Rattle.changes.proofs.RowAdded.{AddTurn, add_eight, add-ranked, add_start, a
 use Rattle.changes.proofs.change.add_row.Statement.{statement}
 use Rattle.changes.proofs.change.add_row.Tie as tie
 
-abbrev invariant-loop : tie.invariant-loop
+abbrev invariant-loop : tie.invariant-loop-j
 invariant-loop s₀ p places t row name column cells key i count j₀ s j = AddTurn p places s₀ t row name key i j s
 
-abbrev decreases-loop : tie.decreases-loop
+abbrev decreases-loop : tie.decreases-loop-j
 decreases-loop s₀ p places t row name column cells key i count j₀ s j = count - j
 
 -- the table
@@ -17,138 +17,138 @@ table : (c : tie.Start invariant-loop decreases-loop) → TableOf c.args.p c.arg
 table c = record { held = c.requires.0; known = c.requires.2.known }
 
 -- its name and key column, read
-opened : (c : tie.After-key-column invariant-loop decreases-loop)
-    → let a = c.before.before.before.before.before.before.before.args in
-    Begun a.p a.places a.s.now a.t c.before.before.before.read_name.result c.key-column.result
+opened : (c : tie.After-key_column-column invariant-loop decreases-loop)
+    → let a = c.before.before.args in
+    Begun a.p a.places a.s.now a.t c.read_name.result c.key_column-column.result
 opened c =
-    begun (table c.before.before.before.before.before.before.before) c.before.before.before.before.table-record.ensures
-    c.before.before.before.read_name.ensures c.before.table-record2.ensures c.key-column.ensures
+    begun (table c.before.before) c.table-record.ensures
+    c.read_name.ensures c.table_record-2.ensures c.key_column-column.ensures
 
-few : (c : tie.After-key-column invariant-loop decreases-loop) → c.key-column.result < 8
-few c = add_eight (opened c) c.before.before.before.before.before.before.before.requires.1 c.before.before.before.before.before.before.before.requires.2
+few : (c : tie.After-key_column-column invariant-loop decreases-loop) → c.key_column-column.result < 8
+few c = add_eight (opened c) c.before.before.requires.1 c.before.before.requires.2
 
 -- the place made for the row
-place : (c : tie.After-open-counted invariant-loop decreases-loop)
+place : (c : tie.After-open_counted invariant-loop decreases-loop)
     → let l = c.before.before.before.before.before in
-    let a = l.before.before.before.before.before.before.before.before.before.before.before.before.args in
-    Place a.p a.s.now c.open-counted.new.0 c.before.before.before.rows_at.result c.before.before.row-width.result l.before.rank-of.result
+    let a = l.before.before.before.args in
+    Place a.p a.s.now c.open_counted.new.s c.rows_at-from.result c.row_width-width.result l.rank_of-i.result
 place c =
-    add-place c.before.before.before.before.before.loop.invariant c.before.before.before.before.loop-test.false
-    c.before.before.before.rows_at.ensures c.before.before.row-width.ensures c.open-counted.ensures
+    add-place c.loop-j.invariant c.loop-j-test.false
+    c.rows_at-from.ensures c.row_width-width.ensures c.open_counted.ensures
 
-table-record-requires : tie.Need-table-record-requires invariant-loop decreases-loop
-table-record-requires c κs = record-asked (table c.before.before)
+table-record-requires : tie.Need-table_record-requires invariant-loop decreases-loop
+table-record-requires c κs = record-asked (table c.before)
 
-read-name-requires : tie.Need-read-name-requires invariant-loop decreases-loop
-read-name-requires c κs = omega (arith, record-least (table c.before.before.before) c.table-record.ensures)
+read-name-requires : tie.Need-read_name-name-requires invariant-loop decreases-loop
+read-name-requires c κs = omega (arith, record-least (table c.before) c.table_record.ensures)
 
-table-record-requires-2 : tie.Need-table-record-requires-2 invariant-loop decreases-loop
-table-record-requires-2 c κs = record-asked (table c.before.before.before.before.before)
+table-record-requires-2 : tie.Need-table_record-requires-2 invariant-loop decreases-loop
+table-record-requires-2 c κs = record-asked (table c.before.before)
 
-key-column-requires : tie.Need-key-column-requires invariant-loop decreases-loop
-key-column-requires c κs = omega (arith, record-least (table c.before.before.before.before.before.before) c.table-record2.ensures)
+key-column-requires : tie.Need-key_column-column-requires invariant-loop decreases-loop
+key-column-requires c κs = omega (arith, record-least (table c.before.before) c.table_record-2.ensures)
 
-mul-k : tie.Need-overflow-mul-k invariant-loop decreases-loop
+mul-k : tie.Need-offset_bounds-cells-column invariant-loop decreases-loop
 mul-k c = omega (arith, few c.before)
 
-array-copy-out-k : tie.Need-array-copy-out-k invariant-loop decreases-loop
+array-copy-out-k : tie.Need-bounds-cells-column invariant-loop decreases-loop
 array-copy-out-k c = omega (arith, few c.before)
 
-rank-of-requires : tie.Need-rank-of-requires invariant-loop decreases-loop
+rank-of-requires : tie.Need-rank_of-i-requires invariant-loop decreases-loop
 rank-of-requires c κs =
-    add-ranked (opened c.before.before.before) c.before.before.before.before.before.before.before.before.before.before.requires.1
-    c.before.before.before.before.before.before.before.before.before.before.requires.2
+    add-ranked (opened c.before.before.before) c.before.before.before.requires.1
+    c.before.before.before.requires.2
 
-loop-holds : tie.Need-loop-init invariant-loop decreases-loop
+loop-holds : tie.Need-loop-j-init invariant-loop decreases-loop
 loop-holds c =
     add_start (opened c.before.before.before.before)
-    c.before.before.before.before.before.before.before.before.before.before.before.requires.1
-    c.before.before.before.before.before.before.before.before.before.before.before.requires.2 c.rank-of.ensures
+    c.before.before.before.requires.1
+    c.before.before.before.requires.2 c.rank_of-i.ensures
 
-table-record-requires-3 : tie.Need-table-record-requires-3 invariant-loop decreases-loop
-table-record-requires-3 c κs = add-asked c.before.before.loop.invariant c.before.loop-test.true
+table-record-requires-3 : tie.Need-table_record-requires-in-loop-j invariant-loop decreases-loop
+table-record-requires-3 c κs = add-asked c.loop.invariant c.loop-test.true
 
-read-column-requires : tie.Need-read-column-requires invariant-loop decreases-loop
-read-column-requires c κs = add_read c.before.before.before.loop.invariant c.before.before.loop-test.true c.table-record3.ensures
+read-column-requires : tie.Need-read_column-c-requires invariant-loop decreases-loop
+read-column-requires c κs = add_read c.loop.invariant c.loop-test.true c.table_record-in-loop-j.ensures
 
-mul-x : tie.Need-overflow-mul-x invariant-loop decreases-loop
-mul-x c = omega (arith, add-eighth c.before.before.before.before.before.loop.invariant c.before.before.before.before.loop-test.true)
+mul-x : tie.Need-offset_bounds-cells-j invariant-loop decreases-loop
+mul-x c = omega (arith, add-eighth c.loop.invariant c.loop-test.true)
 
-array-copy-out-x : tie.Need-array-copy-out-x invariant-loop decreases-loop
-array-copy-out-x c = omega (arith, add-eighth c.before.before.before.before.before.loop.invariant c.before.before.before.before.loop-test.true)
+array-copy-out-x : tie.Need-bounds-cells-j invariant-loop decreases-loop
+array-copy-out-x c = omega (arith, add-eighth c.loop.invariant c.loop-test.true)
 
-cast-add-entry : tie.Need-overflow-cast-add-entry invariant-loop decreases-loop
+cast-add-entry : tie.Need-overflow_cast-j invariant-loop decreases-loop
 cast-add-entry c =
     byte_fits
-    (add-byte c.before.before.before.before.before.before.before.loop.invariant c.before.before.before.before.before.before.loop-test.true)
+    (add-byte c.loop.invariant c.loop-test.true)
 
-add-entry-requires : tie.Need-add-entry-requires invariant-loop decreases-loop
+add-entry-requires : tie.Need-add_entry-requires invariant-loop decreases-loop
 add-entry-requires c κs =
-    add-requires c.before.before.before.before.before.before.before.loop.invariant
-    c.before.before.before.before.before.before.loop-test.true c.before.before.before.before.table-record3.ensures
-    c.before.before.before.read-column.ensures c.before.before.if1.true
+    add-requires c.loop.invariant
+    c.loop-test.true c.table_record-in-loop-j.ensures
+    c.read_column-c.ensures c.if-c.true
 
-add-j : tie.Need-overflow-add-j invariant-loop decreases-loop
-add-j c = next_fits (add-byte c.before.before.before.before.before.loop.invariant c.before.before.before.before.loop-test.true)
+add-j : tie.Need-overflow_add-j invariant-loop decreases-loop
+add-j c = next_fits (add-byte c.loop.invariant c.loop-test.true)
 
-loop-less : tie.Need-loop-smaller invariant-loop decreases-loop
-loop-less c = falls c.before.before.before.before.loop-test.true
+loop-less : tie.Need-loop-j-smaller invariant-loop decreases-loop
+loop-less c = falls c.loop-test.true
 
-loop-again : tie.Need-loop-preserved invariant-loop decreases-loop
+loop-again : tie.Need-loop-j-preserved invariant-loop decreases-loop
 loop-again c =
-    by_arm c.if1.branch
-    (λ w. add-next c.before.before.before.before.before.loop.invariant c.before.before.before.before.loop-test.true
-    c.before.before.table-record3.ensures c.before.read-column.ensures w.0.taken w.3.ensures w.6)
-    (λ w. add-past c.before.before.before.before.before.loop.invariant c.before.before.before.before.loop-test.true
-    c.before.before.table-record3.ensures c.before.read-column.ensures w.0.left w.1)
+    by_arm c.if-c.branch-raw
+    (λ w. add-next c.loop.invariant c.loop-test.true
+    c.table_record-in-loop-j.ensures c.read_column-c.ensures w.0.taken w.3.ensures w.6)
+    (λ w. add-past c.loop.invariant c.loop-test.true
+    c.table_record-in-loop-j.ensures c.read_column-c.ensures w.0.left w.1)
 
-rows-at-requires : tie.Need-rows-at-requires invariant-loop decreases-loop
-rows-at-requires c κs = c.before.loop.invariant.held.coded.known
+rows-at-requires : tie.Need-rows_at-from-requires invariant-loop decreases-loop
+rows-at-requires c κs = c.loop-j.invariant.held.coded.known
 
-row-width-requires : tie.Need-row-width-requires invariant-loop decreases-loop
-row-width-requires c κs = c.before.before.loop.invariant.held.coded.known
+row-width-requires : tie.Need-row_width-width-requires invariant-loop decreases-loop
+row-width-requires c κs = c.loop-j.invariant.held.coded.known
 
-open-counted-requires : tie.Need-open-counted-requires invariant-loop decreases-loop
+open-counted-requires : tie.Need-open_counted-requires invariant-loop decreases-loop
 open-counted-requires c κs =
-    add-grows c.before.before.before.before.loop.invariant c.before.before.before.loop-test.false c.before.before.rows_at.ensures
-    c.before.row-width.ensures
+    add-grows c.loop-j.invariant c.loop-j-test.false c.rows_at-from.ensures
+    c.row_width-width.ensures
 
-mul-a : tie.Need-overflow-mul-a invariant-loop decreases-loop
+mul-a : tie.Need-overflow_mul-a invariant-loop decreases-loop
 mul-a c = omega (arith, (place c.before.before).small)
 
-add_a : tie.Need-overflow-add-a invariant-loop decreases-loop
+add_a : tie.Need-overflow_add-a invariant-loop decreases-loop
 add_a c = omega (arith, (place c.before.before).small)
 
-add-e : tie.Need-overflow-add-e invariant-loop decreases-loop
+add-e : tie.Need-overflow_add-e invariant-loop decreases-loop
 add-e c = omega (arith, (place c.before.before).small)
 
-sub-write-row : tie.Need-overflow-sub-write-row invariant-loop decreases-loop
+sub-write-row : tie.Need-slice_bounds-write_row-count invariant-loop decreases-loop
 sub-write-row c = omega arith
 
-part-write-row-start : tie.Need-slice-bounds-write-row-start invariant-loop decreases-loop
+part-write-row-start : tie.Need-slice_bounds-write_row-start invariant-loop decreases-loop
 part-write-row-start c = omega arith
 
-part-write-row-end : tie.Need-slice-bounds-write-row-end invariant-loop decreases-loop
+part-write-row-end : tie.Need-slice_bounds-write_row-end invariant-loop decreases-loop
 part-write-row-end c = (place c.before.before).inside
 
-write-row-requires : tie.Need-write-row-requires invariant-loop decreases-loop
+write-row-requires : tie.Need-write_row-requires invariant-loop decreases-loop
 write-row-requires c κs =
-    write-asked c.before.before.before.before.before.before.before.before.loop.invariant.facts
-    c.before.before.before.before.before.before.before.before.loop.invariant.proper (place c.before.before.before)
+    write-asked c.loop-j.invariant.facts
+    c.loop-j.invariant.proper (place c.before.before.before)
 
-same_length : tie.Need-same-length invariant-loop decreases-loop
-same_length c = place-back (place c.before.before.before.before.before.before) c.before.before.write-row.new.0 c.before.before.write-row.auto.0
+same_length : tie.Need-shape_of-s invariant-loop decreases-loop
+same_length c = place-back (place c.before.before.before.before.before.before) c.write_row.new.part c.write_row.auto.0
 
 returns : tie.Need-returns invariant-loop decreases-loop
 returns c =
-    add_done c.before.before.before.before.before.before.before.before.before.before.before.loop.invariant
-    c.before.before.before.before.before.before.before.before.before.before.loop-test.false
-    c.before.before.before.before.before.before.before.before.before.rows_at.ensures
-    c.before.before.before.before.before.before.before.before.row-width.ensures
-    c.before.before.before.before.before.before.open-counted.ensures c.before.before.write-row.ensures
+    add_done c.loop-j.invariant
+    c.loop-j-test.false
+    c.rows_at-from.ensures
+    c.row_width-width.ensures
+    c.open_counted.ensures c.write_row.ensures
 
-pub add-row-spec : {M : Type 1} → statement M
-add-row-spec =
+pub add_row_spec : {M : Type 1} → statement M
+add_row_spec =
     tie.close
     (tie.spec
     invariant-loop

@@ -11,41 +11,41 @@ use Rattle.changes.proofs.change.exchange.Tie as tie
 compare-requires : tie.Need-compare-requires
 compare-requires c κs = search rules
 
-enum_told : tie.Need-enum-told
+enum_told : tie.Need-enum_told-1
 enum_told c = search rules
 
-remove-entry-requires : tie.Need-remove-entry-requires
+remove-entry-requires : tie.Need-remove_entry-requires
 remove-entry-requires c κs =
     let b = c.before.before.before.before in
     let a = b.args in
-    (b.requires.0, b.requires.1, b.requires.3 (not_same c.before.before.compare.result _ c.before.before.compare.ensures c.before.match.keys2))
+    (b.requires.0, b.requires.1, b.requires.3 (not_same c.compare.result _ c.compare.ensures c.in_default.in_default-own.keys2))
 
-add-entry-requires : tie.Need-add-entry-requires
+add-entry-requires : tie.Need-add_entry-requires
 add-entry-requires c κs =
     let b = c.before.before.before.before.before.before.before.before in
     let a = b.args in
-    let o = c.before.before.before.remove_entry in
-    (gone-entered a.p a.places a.s.now b.requires.0 (entry_of a.name a.column a.old a.key) (b.requires.3 (not_same c.before.before.before.before.before.before.compare.result _ c.before.before.before.before.before.before.compare.ensures c.before.before.before.before.before.match.keys2)) o.new.0 o.ensures, b.requires.2, gone-room a.p a.places a.s.now b.requires.0 (entry_of a.name a.column a.old a.key) (b.requires.3 (not_same c.before.before.before.before.before.before.compare.result _ c.before.before.before.before.before.before.compare.ensures c.before.before.before.before.before.match.keys2)) o.new.0 o.ensures)
+    let o = c.remove_entry in
+    (gone-entered a.p a.places a.s.now b.requires.0 (entry_of a.name a.column a.old a.key) (b.requires.3 (not_same c.compare.result _ c.compare.ensures c.in_default.in_default-own.keys2)) o.new.0 o.ensures, b.requires.2, gone-room a.p a.places a.s.now b.requires.0 (entry_of a.name a.column a.old a.key) (b.requires.3 (not_same c.compare.result _ c.compare.ensures c.in_default.in_default-own.keys2)) o.new.0 o.ensures)
 
-returns : tie.Need-returns
+returns : tie.Need-returns-in-Same
 returns c =
-    let b = c.before.before.before.before in
+    let b = c.before.before.before in
     let a = b.args in
-    exchange-none a.p a.places a.s.now b.requires.0 (same (meaning a.old) (meaning a.new)) _ (same-is c.before.before.compare.result _ c.before.before.compare.ensures c.enum_told.given.1)
+    exchange-none a.p a.places a.s.now b.requires.0 (same (meaning a.old) (meaning a.new)) _ (same-is c.compare.result _ c.compare.ensures c.in-Same.is)
 
-same_length : tie.Need-same-length
+same_length : tie.Need-shape_of-s
 same_length c = search rules
 
-returns-2 : tie.Need-returns-2
+returns-2 : tie.Need-returns-in_default
 returns-2 c =
     let b = c.before.before.before.before.before.before.before.before.before.before.before in
     let a = b.args in
-    let o = c.before.before.before.before.before.before.remove_entry in
-    let y = c.before.before.add-entry in
-    exchange-done a.p a.places a.s.now b.requires.0 (entry_of a.name a.column a.old a.key) (b.requires.3 (not_same c.before.before.before.before.before.before.before.before.before.compare.result _ c.before.before.before.before.before.before.before.before.before.compare.ensures c.before.before.before.before.before.before.before.before.match.keys2)) o.new.0 o.ensures (entry_of a.name a.column a.new a.key) (same (meaning a.old) (meaning a.new)) (not_same c.before.before.before.before.before.before.before.before.before.compare.result _ c.before.before.before.before.before.before.before.before.before.compare.ensures c.before.before.before.before.before.before.before.before.match.keys2) y.new.0 y.ensures
+    let o = c.remove_entry in
+    let y = c.add_entry in
+    exchange-done a.p a.places a.s.now b.requires.0 (entry_of a.name a.column a.old a.key) (b.requires.3 (not_same c.compare.result _ c.compare.ensures c.in_default.in_default-own.keys2)) o.new.0 o.ensures (entry_of a.name a.column a.new a.key) (same (meaning a.old) (meaning a.new)) (not_same c.compare.result _ c.compare.ensures c.in_default.in_default-own.keys2) y.new.0 y.ensures
 
-pub exchange-spec : {M : Type 1} → statement M
-exchange-spec =
+pub exchange_spec : {M : Type 1} → statement M
+exchange_spec =
     tie.close
     (tie.spec
     compare-requires

@@ -9,45 +9,45 @@ use borrow.Author.Rules.{rules}
 use Rattle.changes.proofs.change.remove_entry.Statement.{statement}
 use Rattle.changes.proofs.change.remove_entry.Tie as tie
 
-entry-rank-requires : tie.Need-entry-rank-requires
+entry-rank-requires : tie.Need-entry_rank-i-requires
 entry-rank-requires c κs = search rules
 
-entries-at-requires : tie.Need-entries-at-requires
+entries-at-requires : tie.Need-entries_at-from-requires
 entries-at-requires c κs = search rules
 
-entry-width-requires : tie.Need-entry-width-requires
+entry-width-requires : tie.Need-entry_width-width-requires
 entry-width-requires c κs = search rules
 
-mul_most : tie.Need-overflow-mul-most
+mul_most : tie.Need-overflow_mul-most
 mul_most c =
-    let b = c.before.before.before.before.before.before in
+    let b = c.before in
     let a = b.args in
     omega (arith, entries-most a.p b.requires.0.coded.known a.places b.requires.0.places)
 
-close-counted-requires : tie.Need-close-counted-requires
+close-counted-requires : tie.Need-close_counted-requires
 close-counted-requires c κs =
-    let b = c.before.before.before.before.before.before.before in
+    let b = c.before in
     let a = b.args in
-    let i = c.before.before.before.before.entry-rank in
-    let f = c.before.before.before.entries_at in
-    let w = c.before.before.entry-width in
+    let i = c.entry_rank-i in
+    let f = c.entries_at-from in
+    let w = c.entry_width-width in
     entry-shrinks a.p a.places a.s.now b.requires.0 (entry_of a.name a.column a.v a.key) f.result w.result (a.p.entries * a.places) i.result f.ensures w.ensures refl i.ensures b.requires.2
 
-same_length : tie.Need-same-length
+same_length : tie.Need-shape_of-s
 same_length c = search rules
 
 returns : tie.Need-returns
 returns c =
-    let b = c.before.before.before.before.before.before.before.before.before.before in
+    let b = c.before in
     let a = b.args in
-    let i = c.before.before.before.before.before.before.before.entry-rank in
-    let f = c.before.before.before.before.before.before.entries_at in
-    let w = c.before.before.before.before.before.entry-width in
-    let o = c.before.before.close-counted in
+    let i = c.entry_rank-i in
+    let f = c.entries_at-from in
+    let w = c.entry_width-width in
+    let o = c.close_counted in
     entry_gone a.p a.places a.s.now b.requires.0 (entry_of a.name a.column a.v a.key) f.result w.result (a.p.entries * a.places) i.result f.ensures w.ensures refl i.ensures b.requires.2 o.new.0 o.ensures
 
-pub remove-entry-spec : {M : Type 1} → statement M
-remove-entry-spec =
+pub remove_entry_spec : {M : Type 1} → statement M
+remove_entry_spec =
     tie.close
     (tie.spec
     entry-rank-requires

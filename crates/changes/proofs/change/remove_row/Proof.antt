@@ -7,10 +7,10 @@ use Rattle.changes.proofs.RowRemoved.{RemoveTurn, remove_key, remove-start, remo
 use Rattle.changes.proofs.change.remove_row.Statement.{statement}
 use Rattle.changes.proofs.change.remove_row.Tie as tie
 
-abbrev invariant-loop : tie.invariant-loop
+abbrev invariant-loop : tie.invariant-loop-j
 invariant-loop s₀ p places t i name column count key j₀ s j = RemoveTurn p places s₀ t i name count key j s
 
-abbrev decreases-loop : tie.decreases-loop
+abbrev decreases-loop : tie.decreases-loop-j
 decreases-loop s₀ p places t i name column count key j₀ s j = count - j
 
 -- the table
@@ -18,107 +18,107 @@ table : (c : tie.Start invariant-loop decreases-loop) → TableOf c.args.p c.arg
 table c = record { held = c.requires.0; known = c.requires.1.known }
 
 -- its name and key column, read
-opened : (c : tie.After-key-column invariant-loop decreases-loop)
-    → let a = c.before.before.before.before.before.before.before.args in
-    Begun a.p a.places a.s.now a.t c.before.before.before.read_name.result c.key-column.result
+opened : (c : tie.After-key_column-column invariant-loop decreases-loop)
+    → let a = c.before.before.args in
+    Begun a.p a.places a.s.now a.t c.read_name.result c.key_column-column.result
 opened c =
-    begun (table c.before.before.before.before.before.before.before) c.before.before.before.before.table-record.ensures
-    c.before.before.before.read_name.ensures c.before.table-record2.ensures c.key-column.ensures
+    begun (table c.before.before) c.table-record.ensures
+    c.read_name.ensures c.table_record-2.ensures c.key_column-column.ensures
 
-table-record-requires : tie.Need-table-record-requires invariant-loop decreases-loop
-table-record-requires c κs = record-asked (table c.before.before)
+table-record-requires : tie.Need-table_record-requires invariant-loop decreases-loop
+table-record-requires c κs = record-asked (table c.before)
 
-read-name-requires : tie.Need-read-name-requires invariant-loop decreases-loop
-read-name-requires c κs = omega (arith, record-least (table c.before.before.before) c.table-record.ensures)
+read-name-requires : tie.Need-read_name-name-requires invariant-loop decreases-loop
+read-name-requires c κs = omega (arith, record-least (table c.before) c.table_record.ensures)
 
-table-record-requires-2 : tie.Need-table-record-requires-2 invariant-loop decreases-loop
-table-record-requires-2 c κs = record-asked (table c.before.before.before.before.before)
+table-record-requires-2 : tie.Need-table_record-requires-2 invariant-loop decreases-loop
+table-record-requires-2 c κs = record-asked (table c.before.before)
 
-key-column-requires : tie.Need-key-column-requires invariant-loop decreases-loop
-key-column-requires c κs = omega (arith, record-least (table c.before.before.before.before.before.before) c.table-record2.ensures)
+key-column-requires : tie.Need-key_column-column-requires invariant-loop decreases-loop
+key-column-requires c κs = omega (arith, record-least (table c.before.before) c.table_record-2.ensures)
 
-table-record-requires-3 : tie.Need-table-record-requires-3 invariant-loop decreases-loop
-table-record-requires-3 c κs = record-asked (table c.before.before.before.before.before.before.before.before)
+table-record-requires-3 : tie.Need-table_record-requires-3 invariant-loop decreases-loop
+table-record-requires-3 c κs = record-asked (table c.before.before.before)
 
-column-count-requires : tie.Need-column-count-requires invariant-loop decreases-loop
-column-count-requires c κs = record-least (table c.before.before.before.before.before.before.before.before.before) c.table-record3.ensures
+column-count-requires : tie.Need-column_count-count-requires invariant-loop decreases-loop
+column-count-requires c κs = record-least (table c.before.before.before) c.table_record-3.ensures
 
-cell-at-requires : tie.Need-cell-at-requires invariant-loop decreases-loop
+cell-at-requires : tie.Need-cell_at-k-requires invariant-loop decreases-loop
 cell-at-requires c κs =
-    remove_key c.before.before.before.before.before.before.before.before.before.before.before.requires.0
-    c.before.before.before.before.before.before.before.before.before.before.before.requires.1 (opened c.before.before.before.before)
+    remove_key c.before.before.before.before.requires.0
+    c.before.before.before.before.requires.1 (opened c.before.before.before.before)
 
-loop-holds : tie.Need-loop-init invariant-loop decreases-loop
+loop-holds : tie.Need-loop-j-init invariant-loop decreases-loop
 loop-holds c =
-    remove-start c.before.before.before.before.before.before.before.before.before.before.before.before.requires.0
-    c.before.before.before.before.before.before.before.before.before.before.before.before.requires.1
+    remove-start c.before.before.before.before.requires.0
+    c.before.before.before.before.requires.1
     (opened c.before.before.before.before.before)
-    (record-count (table c.before.before.before.before.before.before.before.before.before.before.before.before) c.before.before.before.table-record3.ensures c.before.before.column-count.ensures)
-    c.cell-at.result c.cell-at.ensures
+    (record-count (table c.before.before.before.before) c.table-record3.ensures c.column-count.ensures)
+    c.cell_at-k.result c.cell_at-k.ensures
 
-table-record-requires-4 : tie.Need-table-record-requires-4 invariant-loop decreases-loop
-table-record-requires-4 c κs = turn-table c.before.before.loop.invariant c.before.loop-test.true
+table-record-requires-4 : tie.Need-table_record-requires-in-loop-j invariant-loop decreases-loop
+table-record-requires-4 c κs = turn-table c.loop.invariant c.loop-test.true
 
-read-column-requires : tie.Need-read-column-requires invariant-loop decreases-loop
-read-column-requires c κs = turn-read c.before.before.before.loop.invariant c.before.before.loop-test.true c.table-record4.ensures
+read-column-requires : tie.Need-read_column-c-requires invariant-loop decreases-loop
+read-column-requires c κs = turn-read c.loop.invariant c.loop-test.true c.table_record-in-loop-j.ensures
 
-row-record-requires : tie.Need-row-record-requires invariant-loop decreases-loop
-row-record-requires c κs = turn-row c.before.before.before.before.before.before.loop.invariant c.before.before.before.before.before.loop-test.true
+row-record-requires : tie.Need-row_record-requires invariant-loop decreases-loop
+row-record-requires c κs = turn-row c.loop.invariant c.loop-test.true
 
-cell-in-requires : tie.Need-cell-in-requires invariant-loop decreases-loop
+cell-in-requires : tie.Need-cell_in-x-requires invariant-loop decreases-loop
 cell-in-requires c κs =
-    turn-cell c.before.before.before.before.before.before.before.loop.invariant
-    c.before.before.before.before.before.before.loop-test.true c.row-record.ensures
+    turn-cell c.loop.invariant
+    c.loop-test.true c.row_record.ensures
 
-cast-remove-entry : tie.Need-overflow-cast-remove-entry invariant-loop decreases-loop
+cast-remove-entry : tie.Need-overflow_cast-j invariant-loop decreases-loop
 cast-remove-entry c =
     byte_fits
-    (turn_byte c.before.before.before.before.before.before.before.before.before.loop.invariant c.before.before.before.before.before.before.before.before.loop-test.true)
+    (turn_byte c.loop.invariant c.loop-test.true)
 
-remove-entry-requires : tie.Need-remove-entry-requires invariant-loop decreases-loop
+remove-entry-requires : tie.Need-remove_entry-requires invariant-loop decreases-loop
 remove-entry-requires c κs =
-    turn-requires c.before.before.before.before.before.before.before.before.before.loop.invariant
-    c.before.before.before.before.before.before.before.before.loop-test.true
-    c.before.before.before.before.before.before.table-record4.ensures c.before.before.before.before.before.read-column.ensures
-    c.before.before.before.before.if1.true c.before.before.row-record.ensures
-    c.before.cell_in.result c.before.cell_in.ensures
+    turn-requires c.loop.invariant
+    c.loop-test.true
+    c.table-record4.ensures c.read-column.ensures
+    c.if1.true c.row_record.ensures
+    c.cell_in-x.result c.cell_in-x.ensures
 
-add-j : tie.Need-overflow-add-j invariant-loop decreases-loop
-add-j c = next_fits (turn_byte c.before.before.before.before.before.loop.invariant c.before.before.before.before.loop-test.true)
+add-j : tie.Need-overflow_add-j invariant-loop decreases-loop
+add-j c = next_fits (turn_byte c.loop.invariant c.loop-test.true)
 
-loop-less : tie.Need-loop-smaller invariant-loop decreases-loop
-loop-less c = falls c.before.before.before.before.loop-test.true
+loop-less : tie.Need-loop-j-smaller invariant-loop decreases-loop
+loop-less c = falls c.loop-test.true
 
-loop-again : tie.Need-loop-preserved invariant-loop decreases-loop
+loop-again : tie.Need-loop-j-preserved invariant-loop decreases-loop
 loop-again c =
-    by_arm c.if1.branch
-    (λ w. turn-next c.before.before.before.before.before.loop.invariant c.before.before.before.before.loop-test.true
-    c.before.before.table-record4.ensures c.before.read-column.ensures w.0.taken w.2.ensures w.3.result w.3.ensures w.5.ensures w.8)
-    (λ w. turn-past c.before.before.before.before.before.loop.invariant c.before.before.before.before.loop-test.true
-    c.before.before.table-record4.ensures c.before.read-column.ensures w.0.left w.1)
+    by_arm c.if-c.branch-raw
+    (λ w. turn-next c.loop.invariant c.loop-test.true
+    c.table_record-in-loop-j.ensures c.read_column-c.ensures w.0.taken w.2.ensures w.3.result w.3.ensures w.5.ensures w.8)
+    (λ w. turn-past c.loop.invariant c.loop-test.true
+    c.table_record-in-loop-j.ensures c.read_column-c.ensures w.0.left w.1)
 
-rows-at-requires : tie.Need-rows-at-requires invariant-loop decreases-loop
-rows-at-requires c κs = c.before.before.loop.invariant.held.coded.known
+rows-at-requires : tie.Need-rows_at-requires invariant-loop decreases-loop
+rows-at-requires c κs = c.loop-j.invariant.held.coded.known
 
-row-width-requires : tie.Need-row-width-requires invariant-loop decreases-loop
-row-width-requires c κs = c.before.before.before.loop.invariant.held.coded.known
+row-width-requires : tie.Need-row_width-requires invariant-loop decreases-loop
+row-width-requires c κs = c.loop-j.invariant.held.coded.known
 
-close-counted-requires : tie.Need-close-counted-requires invariant-loop decreases-loop
+close-counted-requires : tie.Need-close_counted-requires invariant-loop decreases-loop
 close-counted-requires c κs =
-    remove-shrinks c.before.before.before.before.loop.invariant c.before.before.before.loop-test.false c.before.rows_at.ensures
-    c.row-width.ensures
+    remove-shrinks c.loop-j.invariant c.loop-j-test.false c.rows_at.ensures
+    c.row_width.ensures
 
-same_length : tie.Need-same-length invariant-loop decreases-loop
-same_length c = c.before.before.close-counted.auto.0 ∙ remove-length c.before.before.before.before.before.before.before.loop.invariant
+same_length : tie.Need-shape_of-s invariant-loop decreases-loop
+same_length c = c.close_counted.auto.0 ∙ remove-length c.loop-j.invariant
 
 returns : tie.Need-returns invariant-loop decreases-loop
 returns c =
-    remove-done c.before.before.before.before.before.before.before.loop.invariant
-    c.before.before.before.before.before.before.loop-test.false c.before.before.before.before.rows_at.ensures
-    c.before.before.before.row-width.ensures c.before.before.close-counted.ensures
+    remove-done c.loop-j.invariant
+    c.loop-j-test.false c.rows_at.ensures
+    c.row_width.ensures c.close_counted.ensures
 
-pub remove-row-spec : {M : Type 1} → statement M
-remove-row-spec =
+pub remove_row_spec : {M : Type 1} → statement M
+remove_row_spec =
     tie.close
     (tie.spec
     invariant-loop

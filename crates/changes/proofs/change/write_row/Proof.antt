@@ -12,140 +12,140 @@ use borrow.Author.Rules.{rules}
 use Rattle.changes.proofs.change.write_row.Statement.{statement}
 use Rattle.changes.proofs.change.write_row.Tie as tie
 
-abbrev invariant-loop : tie.invariant-loop
+abbrev invariant-loop : tie.invariant-loop-j
 invariant-loop part₀ p cells count j₀ part j = (j ≤ count) × (part ≡ row_so_far part₀ cells p.cell j)
 
-abbrev decreases-loop : tie.decreases-loop
+abbrev decreases-loop : tie.decreases-loop-j
 decreases-loop part₀ p cells count j₀ part j = count - j
 
-sub-write-name : tie.Need-overflow-sub-write-name invariant-loop decreases-loop
+sub-write-name : tie.Need-slice_bounds-write_name-count invariant-loop decreases-loop
 sub-write-name c = search rules
 
-part-write-name-start : tie.Need-slice-bounds-write-name-start invariant-loop decreases-loop
+part-write-name-start : tie.Need-slice_bounds-write_name-start invariant-loop decreases-loop
 part-write-name-start c = search rules
 
-part-write-name-end : tie.Need-slice-bounds-write-name-end invariant-loop decreases-loop
+part-write-name-end : tie.Need-slice_bounds-write_name-end invariant-loop decreases-loop
 part-write-name-end c =
     let b = c.before in
     let a = b.args in
     omega (arith, b.requires.1, name-within a.p Rows)
 
-write-name-requires : tie.Need-write-name-requires invariant-loop decreases-loop
+write-name-requires : tie.Need-write_name-requires invariant-loop decreases-loop
 write-name-requires c κs =
     let b = c.before.before in
     let a = b.args in
     (simp (length-take, length-drop) (omega (arith, b.requires.1, name-within a.p Rows)), b.requires.2)
 
-loop-holds : tie.Need-loop-init invariant-loop decreases-loop
+loop-holds : tie.Need-loop-j-init invariant-loop decreases-loop
 loop-holds c =
     let b = c.before.before.before.before.before.before in
     let a = b.args in
     (omega arith, row-start _ a.row.cells a.p.cell)
 
 -- the cells fit
-space : (c : tie.After-cells invariant-loop decreases-loop) → let a = c.before.before.before.before.before.before.args in 25 + a.row.count * a.p.cell ≤ length (put_mid 0 25 a.part.now c.before.before.before.write-name.new.0)
+space : (c : tie.After-cells-1 invariant-loop decreases-loop) → let a = c.args in 25 + a.row.count * a.p.cell ≤ length (put_mid 0 25 a.part.now c.write_name.new.out)
 space c =
-    let y = c.before.before.before.write-name in
+    let y = c.write_name in
     let b = c.before.before.before.before.before.before in
     let a = b.args in
     omega (arith, cells-room a.p a.row.count b.requires.4, b.requires.1, named-long a.part.now y.new.0 a.name b.requires.2 y.ensures (omega (arith, b.requires.1, name-within a.p Rows)))
 
-mul-from : tie.Need-overflow-mul-from invariant-loop decreases-loop
+mul-from : tie.Need-overflow_mul-from invariant-loop decreases-loop
 mul-from c =
     let l = c.before.before in
-    let y = l.before.before.before.before.write-name in
+    let y = l.write_name in
     let b = l.before.before.before.before.before.before.before in
     let a = b.args in
-    omega (arith, cell-fits (put_mid 0 25 a.part.now y.new.0) a.row.cells a.p.cell a.row.count b.requires.0.cells b.requires.3.proper b.requires.3.few (space c.before.before.before) l.loop.j (omega arith))
+    omega (arith, cell-fits (put_mid 0 25 a.part.now y.new.0) a.row.cells a.p.cell a.row.count b.requires.0.cells b.requires.3.proper b.requires.3.few (space c.before.before.before) l.loop-j.j (omega arith))
 
-add-from : tie.Need-overflow-add-from invariant-loop decreases-loop
+add-from : tie.Need-overflow_add-from invariant-loop decreases-loop
 add-from c =
     let l = c.before.before in
-    let y = l.before.before.before.before.write-name in
+    let y = l.write_name in
     let b = l.before.before.before.before.before.before.before in
     let a = b.args in
-    omega (arith, cell-fits (put_mid 0 25 a.part.now y.new.0) a.row.cells a.p.cell a.row.count b.requires.0.cells b.requires.3.proper b.requires.3.few (space c.before.before.before) l.loop.j (omega arith))
+    omega (arith, cell-fits (put_mid 0 25 a.part.now y.new.0) a.row.cells a.p.cell a.row.count b.requires.0.cells b.requires.3.proper b.requires.3.few (space c.before.before.before) l.loop-j.j (omega arith))
 
-add-end : tie.Need-overflow-add-end invariant-loop decreases-loop
+add-end : tie.Need-overflow_add-end invariant-loop decreases-loop
 add-end c =
     let l = c.before.before in
-    let y = l.before.before.before.before.write-name in
+    let y = l.write_name in
     let b = l.before.before.before.before.before.before.before in
     let a = b.args in
-    omega (arith, cell-fits (put_mid 0 25 a.part.now y.new.0) a.row.cells a.p.cell a.row.count b.requires.0.cells b.requires.3.proper b.requires.3.few (space c.before.before.before) l.loop.j (omega arith))
+    omega (arith, cell-fits (put_mid 0 25 a.part.now y.new.0) a.row.cells a.p.cell a.row.count b.requires.0.cells b.requires.3.proper b.requires.3.few (space c.before.before.before) l.loop-j.j (omega arith))
 
-mul-c : tie.Need-overflow-mul-c invariant-loop decreases-loop
+mul-c : tie.Need-offset_bounds-cells-j invariant-loop decreases-loop
 mul-c c = omega arith
 
-array-copy-out-c : tie.Need-array-copy-out-c invariant-loop decreases-loop
+array-copy-out-c : tie.Need-bounds-cells-j invariant-loop decreases-loop
 array-copy-out-c c = let b = c.before.before.before.before.before.before.before.before.before in omega (arith, b.requires.3.most)
 
-sub-write-cell : tie.Need-overflow-sub-write-cell invariant-loop decreases-loop
+sub-write-cell : tie.Need-slice_bounds-write_cell-count invariant-loop decreases-loop
 sub-write-cell c = omega arith
 
-part-write-cell-start : tie.Need-slice-bounds-write-cell-start invariant-loop decreases-loop
+part-write-cell-start : tie.Need-slice_bounds-write_cell-start invariant-loop decreases-loop
 part-write-cell-start c =
     let l = c.before.before.before in
-    let y = l.before.before.before.before.write-name in
+    let y = l.write_name in
     let b = l.before.before.before.before.before.before.before in
     let a = b.args in
-    omega (arith, cell-fits (put_mid 0 25 a.part.now y.new.0) a.row.cells a.p.cell a.row.count b.requires.0.cells b.requires.3.proper b.requires.3.few (space c.before.before.before.before) l.loop.j (omega arith))
+    omega (arith, cell-fits (put_mid 0 25 a.part.now y.new.0) a.row.cells a.p.cell a.row.count b.requires.0.cells b.requires.3.proper b.requires.3.few (space c.before.before.before.before) l.loop-j.j (omega arith))
 
-part-write-cell-end : tie.Need-slice-bounds-write-cell-end invariant-loop decreases-loop
+part-write-cell-end : tie.Need-slice_bounds-write_cell-end invariant-loop decreases-loop
 part-write-cell-end c =
     let l = c.before.before.before in
-    let y = l.before.before.before.before.write-name in
+    let y = l.write_name in
     let b = l.before.before.before.before.before.before.before in
     let a = b.args in
-    omega (arith, cell-fits (put_mid 0 25 a.part.now y.new.0) a.row.cells a.p.cell a.row.count b.requires.0.cells b.requires.3.proper b.requires.3.few (space c.before.before.before.before) l.loop.j (omega arith), ap length l.loop.invariant.1, so-far-long (put_mid 0 25 a.part.now y.new.0) a.row.cells a.p.cell a.row.count b.requires.0.cells b.requires.3.proper b.requires.3.few (space c.before.before.before.before) l.loop.j l.loop.invariant.0)
+    omega (arith, cell-fits (put_mid 0 25 a.part.now y.new.0) a.row.cells a.p.cell a.row.count b.requires.0.cells b.requires.3.proper b.requires.3.few (space c.before.before.before.before) l.loop-j.j (omega arith), ap length l.loop-j.invariant.1, so-far-long (put_mid 0 25 a.part.now y.new.0) a.row.cells a.p.cell a.row.count b.requires.0.cells b.requires.3.proper b.requires.3.few (space c.before.before.before.before) l.loop-j.j l.loop-j.invariant.0)
 
-write-cell-requires : tie.Need-write-cell-requires invariant-loop decreases-loop
+write-cell-requires : tie.Need-write_cell-requires invariant-loop decreases-loop
 write-cell-requires c κs =
     let l = c.before.before.before.before in
-    let y = l.before.before.before.before.write-name in
+    let y = l.write_name in
     let b = l.before.before.before.before.before.before.before in
     let a = b.args in
-    (cell-part (put_mid 0 25 a.part.now y.new.0) a.row.cells a.p.cell a.row.count b.requires.0.cells b.requires.3.proper b.requires.3.few (space c.before.before.before.before.before) l.loop.j l.loop.part l.loop.invariant.1 (omega arith), cell-proper (put_mid 0 25 a.part.now y.new.0) a.row.cells a.p.cell a.row.count b.requires.0.cells b.requires.3.proper b.requires.3.few (space c.before.before.before.before.before) l.loop.j (omega arith))
+    (cell-part (put_mid 0 25 a.part.now y.new.0) a.row.cells a.p.cell a.row.count b.requires.0.cells b.requires.3.proper b.requires.3.few (space c.before.before.before.before.before) l.loop-j.j l.loop-j.part l.loop-j.invariant.1 (omega arith), cell-proper (put_mid 0 25 a.part.now y.new.0) a.row.cells a.p.cell a.row.count b.requires.0.cells b.requires.3.proper b.requires.3.few (space c.before.before.before.before.before) l.loop-j.j (omega arith))
 
-add-j : tie.Need-overflow-add-j invariant-loop decreases-loop
+add-j : tie.Need-overflow_add-j invariant-loop decreases-loop
 add-j c = omega arith
 
-loop-less : tie.Need-loop-smaller invariant-loop decreases-loop
+loop-less : tie.Need-loop-j-smaller invariant-loop decreases-loop
 loop-less c = omega arith
 
-loop-again : tie.Need-loop-preserved invariant-loop decreases-loop
+loop-again : tie.Need-loop-j-preserved invariant-loop decreases-loop
 loop-again c =
     let l = c.before.before.before.before.before.before.before in
-    let y = l.before.before.before.before.write-name in
+    let y = l.write_name in
     let b = l.before.before.before.before.before.before.before in
     let a = b.args in
-    let k = c.before.before.write_cell in (
+    let k = c.write_cell in (
       omega arith,
-      ap (λ (x : List ℕ). put_mid (25 + l.loop.j * a.p.cell) (25 + l.loop.j * a.p.cell + 26 - (25 + l.loop.j * a.p.cell)) x k.new.0) l.loop.invariant.1
-          ∙ row_next (put_mid 0 25 a.part.now y.new.0) a.row.cells a.p.cell a.row.count b.requires.0.cells b.requires.3.proper b.requires.3.few (space c.before.before.before.before.before.before.before.before) l.loop.j k.new.0 (omega arith) k.ensures,
+      ap (λ (x : List ℕ). put_mid (25 + l.loop-j.j * a.p.cell) (25 + l.loop-j.j * a.p.cell + 26 - (25 + l.loop-j.j * a.p.cell)) x k.new.0) l.loop-j.invariant.1
+          ∙ row_next (put_mid 0 25 a.part.now y.new.0) a.row.cells a.p.cell a.row.count b.requires.0.cells b.requires.3.proper b.requires.3.few (space c.before.before.before.before.before.before.before.before) l.loop-j.j k.new.0 (omega arith) k.ensures,
     )
 
-same_length : tie.Need-same-length invariant-loop decreases-loop
+same_length : tie.Need-shape_of-part invariant-loop decreases-loop
 same_length c =
     let l = c.before in
-    let y = l.before.before.before.before.write-name in
+    let y = l.write_name in
     let b = l.before.before.before.before.before.before.before in
     let a = b.args in
-    ap length l.loop.invariant.1 ∙ so-far-long (put_mid 0 25 a.part.now y.new.0) a.row.cells a.p.cell a.row.count b.requires.0.cells b.requires.3.proper b.requires.3.few (space c.before.before) l.loop.j l.loop.invariant.0
+    ap length l.loop-j.invariant.1 ∙ so-far-long (put_mid 0 25 a.part.now y.new.0) a.row.cells a.p.cell a.row.count b.requires.0.cells b.requires.3.proper b.requires.3.few (space c.before.before) l.loop-j.j l.loop-j.invariant.0
     ∙ named-long a.part.now y.new.0 a.name b.requires.2 y.ensures (omega (arith, b.requires.1, name-within a.p Rows))
 
 returns : tie.Need-returns invariant-loop decreases-loop
 returns c =
     let l = c.before in
-    let y = l.before.before.before.before.write-name in
+    let y = l.write_name in
     let b = l.before.before.before.before.before.before.before in
     let a = b.args in
-    let e : l.loop.j ≡ a.row.count = omega arith in
-    l.loop.invariant.1 ∙ ap (row_so_far (put_mid 0 25 a.part.now y.new.0) a.row.cells a.p.cell) e
+    let e : l.loop-j.j ≡ a.row.count = omega arith in
+    l.loop-j.invariant.1 ∙ ap (row_so_far (put_mid 0 25 a.part.now y.new.0) a.row.cells a.p.cell) e
     ∙ row_written a.part.now y.new.0 a.name b.requires.2 y.ensures a.row a.p.cell b.requires.0.cells
 
-pub write-row-spec : {M : Type 1} → statement M
-write-row-spec =
+pub write_row_spec : {M : Type 1} → statement M
+write_row_spec =
     tie.close
     (tie.spec
     invariant-loop

@@ -9,71 +9,71 @@ use borrow.Author.Rules.{rules}
 use Rattle.checks.proofs.row_fault.cell_fault.Statement.{statement}
 use Rattle.checks.proofs.row_fault.cell_fault.Tie as tie
 
-kind-fault-requires : tie.Need-kind-fault-requires
+kind-fault-requires : tie.Need-kind_fault-k-requires
 kind-fault-requires c κs = search rules
 
-is-accepted-requires : tie.Need-is-accepted-requires
+is-accepted-requires : tie.Need-is_accepted-requires
 is-accepted-requires c κs = search rules
 
-returns : tie.Need-returns
+returns : tie.Need-returns-then-not-is_accepted
 returns c =
     let b = c.before.before.before.before in
     let a = b.args in
     kind-refuses (parse a.p a.places a.s.now).rows (text_bytes a.name) a.at a.update (meaning a.key) a.column (column_of a.c) (meaning a.v)
-    c.before.before.kind-fault.result
-    c.before.before.kind-fault.ensures
-    (sym c.before.is-accepted.ensures ∙ not-true _ c.if1.true)
+    c.kind_fault-k.result
+    c.kind_fault-k.ensures
+    (sym c.is_accepted.ensures ∙ not-true _ c.if-not-is_accepted.true)
 
-is-missing-requires : tie.Need-is-missing-requires
+is-missing-requires : tie.Need-is_missing-requires
 is-missing-requires c κs = search rules
 
-returns-2 : tie.Need-returns-2
+returns-2 : tie.Need-returns-then-is_missing
 returns-2 c =
     let b = c.before.before.before.before.before.before in
     let a = b.args in
     target-refuses (parse a.p a.places a.s.now).rows (text_bytes a.name) a.at a.update (meaning a.key) a.column (column_of a.c) (meaning a.v)
-    c.before.before.before.before.kind-fault.result
-    c.before.before.before.before.kind-fault.ensures
-    (sym c.before.before.before.is-accepted.ensures ∙ not-false _ c.before.before.if1.false)
-    c.before.is-missing.result
-    c.before.is-missing.ensures
-    c.if2.true
+    c.kind_fault-k.result
+    c.kind_fault-k.ensures
+    (sym c.is_accepted.ensures ∙ not-false _ c.if-not-is_accepted.false)
+    c.is_missing.result
+    c.is_missing.ensures
+    c.if-is_missing.true
 
-is-repeated-requires : tie.Need-is-repeated-requires
+is-repeated-requires : tie.Need-is_repeated-requires
 is-repeated-requires c κs = search rules
 
-returns-3 : tie.Need-returns-3
+returns-3 : tie.Need-returns-then-is_repeated
 returns-3 c =
     let b = c.before.before.before.before.before.before.before.before in
     let a = b.args in
     value-refuses (parse a.p a.places a.s.now).rows (text_bytes a.name) a.at a.update (meaning a.key) a.column (column_of a.c) (meaning a.v)
-    c.before.before.before.before.before.before.kind-fault.result
-    c.before.before.before.before.before.before.kind-fault.ensures
-    (sym c.before.before.before.before.before.is-accepted.ensures ∙ not-false _ c.before.before.before.before.if1.false)
-    c.before.before.before.is-missing.result
-    c.before.before.before.is-missing.ensures
-    c.before.before.if2.false
-    c.before.is-repeated.result
-    c.before.is-repeated.ensures
-    c.if3.true
+    c.kind_fault-k.result
+    c.kind_fault-k.ensures
+    (sym c.is_accepted.ensures ∙ not-false _ c.if-not-is_accepted.false)
+    c.is_missing.result
+    c.is_missing.ensures
+    c.if-is_missing.false
+    c.is_repeated.result
+    c.is_repeated.ensures
+    c.if-is_repeated.true
 
-returns-4 : tie.Need-returns-4
+returns-4 : tie.Need-returns
 returns-4 c =
     let b = c.before.before.before.before.before.before.before.before in
     let a = b.args in
     cell-fit (parse a.p a.places a.s.now).rows (text_bytes a.name) a.at a.update (meaning a.key) a.column (column_of a.c) (meaning a.v)
-    c.before.before.before.before.before.before.kind-fault.result
-    c.before.before.before.before.before.before.kind-fault.ensures
-    (sym c.before.before.before.before.before.is-accepted.ensures ∙ not-false _ c.before.before.before.before.if1.false)
-    c.before.before.before.is-missing.result
-    c.before.before.before.is-missing.ensures
-    c.before.before.if2.false
-    c.before.is-repeated.result
-    c.before.is-repeated.ensures
-    c.if3.false
+    c.kind_fault-k.result
+    c.kind_fault-k.ensures
+    (sym c.is_accepted.ensures ∙ not-false _ c.if-not-is_accepted.false)
+    c.is_missing.result
+    c.is_missing.ensures
+    c.if-is_missing.false
+    c.is_repeated.result
+    c.is_repeated.ensures
+    c.if-is_repeated.false
 
-pub cell-fault-spec : {M : Type 1} → statement M
-cell-fault-spec =
+pub cell_fault_spec : {M : Type 1} → statement M
+cell_fault_spec =
     tie.close
     (tie.spec
     kind-fault-requires

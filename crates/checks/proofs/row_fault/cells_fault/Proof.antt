@@ -17,183 +17,183 @@ use Rattle.checks.proofs.row_fault.cells_fault.Tie as tie
 abbrev blank : Cell
 blank = record { value = Null }
 
-abbrev invariant-loop : tie.invariant-loop
+abbrev invariant-loop : tie.invariant-loop-j
 invariant-loop s p places t update rec name at count cells key j₀ j =
     (j ≤ count) × (faults_on p places s t update cells j ≡ faults_on p places s t update cells 0)
 
-abbrev decreases-loop : tie.decreases-loop
+abbrev decreases-loop : tie.decreases-loop-j
 decreases-loop s p places t update rec name at count cells key j₀ j = count - j
 
-table-record-requires : tie.Need-table-record-requires invariant-loop decreases-loop
+table-record-requires : tie.Need-table_record-rec-requires invariant-loop decreases-loop
 table-record-requires c κs =
     let b = c.before in
     let a = b.args in
     (held-inside a.p a.places a.s.now b.requires.0, schema-within a.p a.places a.s.now a.t b.requires.0 b.requires.1.known)
 
-read-name-requires : tie.Need-read-name-requires invariant-loop decreases-loop
+read-name-requires : tie.Need-read_name-name-requires invariant-loop decreases-loop
 read-name-requires c κs =
     let b = c.before.before in
     let a = b.args in
     let g = b.requires.0 in
-    let r = c.table-record in
+    let r = c.table_record-rec in
     let rec = r.result.now in
     omega (arith, record-least a.p rec (rec-bytes a.p a.places a.s.now a.t g b.requires.1.known rec r.ensures))
 
-key-column-requires : tie.Need-key-column-requires invariant-loop decreases-loop
+key-column-requires : tie.Need-key_column-at-requires invariant-loop decreases-loop
 key-column-requires c κs =
     let b = c.before.before.before in
     let a = b.args in
     let g = b.requires.0 in
-    let r = c.before.table-record in
+    let r = c.table_record-rec in
     let rec = r.result.now in
     omega (arith, record-least a.p rec (rec-bytes a.p a.places a.s.now a.t g b.requires.1.known rec r.ensures))
 
-column-count-requires : tie.Need-column-count-requires invariant-loop decreases-loop
+column-count-requires : tie.Need-column_count-count-requires invariant-loop decreases-loop
 column-count-requires c κs =
     let b = c.before.before.before.before in
     let a = b.args in
     let g = b.requires.0 in
-    let r = c.before.before.table-record in
+    let r = c.table_record-rec in
     let rec = r.result.now in
     record-least a.p rec (rec-bytes a.p a.places a.s.now a.t g b.requires.1.known rec r.ensures)
 
-mul-k : tie.Need-overflow-mul-k invariant-loop decreases-loop
+mul-k : tie.Need-offset_bounds-cells-at invariant-loop decreases-loop
 mul-k c =
     let b = c.before.before.before.before.before.before in
     let a = b.args in
     let g = b.requires.0 in
-    let r = c.before.before.before.before.table-record in
+    let r = c.table_record-rec in
     let rec = r.result.now in
-    let k = key-within-columns a.p a.places a.s.now a.t g b.requires.1.known rec r.ensures c.before.before.key-column.result c.before.before.key-column.ensures in
+    let k = key-within-columns a.p a.places a.s.now a.t g b.requires.1.known rec r.ensures c.key_column-at.result c.key_column-at.ensures in
     let e = few-columns-8 a.p a.places a.s.now a.t g b.requires.1.known rec r.ensures a.row b.requires.1 in
     omega arith
 
-array-copy-out-k : tie.Need-array-copy-out-k invariant-loop decreases-loop
+array-copy-out-k : tie.Need-bounds-cells-at invariant-loop decreases-loop
 array-copy-out-k c =
     let b = c.before.before.before.before.before.before in
     let a = b.args in
     let g = b.requires.0 in
-    let r = c.before.before.before.before.table-record in
+    let r = c.table_record-rec in
     let rec = r.result.now in
-    let k = key-within-columns a.p a.places a.s.now a.t g b.requires.1.known rec r.ensures c.before.before.key-column.result c.before.before.key-column.ensures in
+    let k = key-within-columns a.p a.places a.s.now a.t g b.requires.1.known rec r.ensures c.key_column-at.result c.key_column-at.ensures in
     let e = few-columns-8 a.p a.places a.s.now a.t g b.requires.1.known rec r.ensures a.row b.requires.1 in
     omega arith
 
-loop-holds : tie.Need-loop-init invariant-loop decreases-loop
+loop-holds : tie.Need-loop-j-init invariant-loop decreases-loop
 loop-holds c =
     (omega arith, refl)
 
-read-column-requires : tie.Need-read-column-requires invariant-loop decreases-loop
+read-column-requires : tie.Need-read_column-c-requires invariant-loop decreases-loop
 read-column-requires c κs =
     let b = c.before.before.before.before.before.before.before.before.before in
     let a = b.args in
     let g = b.requires.0 in
-    let r = c.before.before.before.before.before.before.before.table-record in
+    let r = c.table_record-rec in
     let rec = r.result.now in
-    let l : c.before.loop.j < length (columns_of a.p rec) = omega (arith, c.loop-test.true, c.before.before.before.before.column-count.ensures, count-byte a.p rec) in
+    let l : c.loop-j.j < length (columns_of a.p rec) = omega (arith, c.loop-j-test.true, c.column_count-count.ensures, count-byte a.p rec) in
     let y = rec-bytes a.p a.places a.s.now a.t g b.requires.1.known rec r.ensures in
     (y, omega (arith, l, columns-few a.p rec y))
 
-mul-x : tie.Need-overflow-mul-x invariant-loop decreases-loop
+mul-x : tie.Need-offset_bounds-cells-j invariant-loop decreases-loop
 mul-x c =
     let b = c.before.before.before.before.before.before.before.before.before.before in
     let a = b.args in
     let g = b.requires.0 in
-    let r = c.before.before.before.before.before.before.before.before.table-record in
+    let r = c.table_record-rec in
     let rec = r.result.now in
-    let l : c.before.before.loop.j < length (columns_of a.p rec) = omega (arith, c.before.loop-test.true, c.before.before.before.before.before.column-count.ensures, count-byte a.p rec) in
+    let l : c.loop-j.j < length (columns_of a.p rec) = omega (arith, c.loop-j-test.true, c.column_count-count.ensures, count-byte a.p rec) in
     let e = few-columns-8 a.p a.places a.s.now a.t g b.requires.1.known rec r.ensures a.row b.requires.1 in
     omega arith
 
-array-copy-out-x : tie.Need-array-copy-out-x invariant-loop decreases-loop
+array-copy-out-x : tie.Need-bounds-cells-j invariant-loop decreases-loop
 array-copy-out-x c =
     let b = c.before.before.before.before.before.before.before.before.before.before in
     let a = b.args in
     let g = b.requires.0 in
-    let r = c.before.before.before.before.before.before.before.before.table-record in
+    let r = c.table_record-rec in
     let rec = r.result.now in
-    let l : c.before.before.loop.j < length (columns_of a.p rec) = omega (arith, c.before.loop-test.true, c.before.before.before.before.before.column-count.ensures, count-byte a.p rec) in
+    let l : c.loop-j.j < length (columns_of a.p rec) = omega (arith, c.loop-j-test.true, c.column_count-count.ensures, count-byte a.p rec) in
     let e = few-columns-8 a.p a.places a.s.now a.t g b.requires.1.known rec r.ensures a.row b.requires.1 in
     omega arith
 
-cell-fault-requires : tie.Need-cell-fault-requires invariant-loop decreases-loop
+cell-fault-requires : tie.Need-cell_fault-f-requires invariant-loop decreases-loop
 cell-fault-requires c κs =
     let b = c.before.before.before.before.before.before.before.before.before.before.before in
     let a = b.args in
     let g = b.requires.0 in
-    let r = c.before.before.before.before.before.before.before.before.before.table-record in
+    let r = c.table_record-rec in
     let rec = r.result.now in
-    let l : c.before.before.before.loop.j < length (columns_of a.p rec) = omega (arith, c.before.before.loop-test.true, c.before.before.before.before.before.before.column-count.ensures, count-byte a.p rec) in
-    let k = key-within-columns a.p a.places a.s.now a.t g b.requires.1.known rec r.ensures c.before.before.before.before.before.before.before.key-column.result c.before.before.before.before.before.before.before.key-column.ensures in
+    let l : c.loop-j.j < length (columns_of a.p rec) = omega (arith, c.loop-j-test.true, c.column_count-count.ensures, count-byte a.p rec) in
+    let k = key-within-columns a.p a.places a.s.now a.t g b.requires.1.known rec r.ensures c.key_column-at.result c.key_column-at.ensures in
     let e = few-columns-8 a.p a.places a.s.now a.t g b.requires.1.known rec r.ensures a.row b.requires.1 in (
-      (b.requires.0, c.before.before.before.before.before.before.before.before.read_name.ensures.1, cell-proper a.p a.places a.s.now a.t g b.requires.1.known rec r.ensures a.row b.requires.1 c.before.before.before.before.before.before.before.key-column.result k blank, c.before.read-column.ensures.proper, cell-proper a.p a.places a.s.now a.t g b.requires.1.known rec r.ensures a.row b.requires.1 c.before.before.before.loop.j l blank, omega arith),
-      unique-found a.p a.places a.s.now a.t g b.requires.1.known rec r.ensures (text_bytes c.before.before.before.before.before.before.before.before.read_name.result) c.before.before.before.before.before.before.before.before.read_name.ensures.0 c.before.before.before.before.before.before.before.key-column.result c.before.before.before.before.before.before.before.key-column.ensures c.before.before.before.loop.j l (column_of c.before.read-column.result) c.before.read-column.ensures.is,
+      (b.requires.0, c.read_name-name.ensures.1, cell-proper a.p a.places a.s.now a.t g b.requires.1.known rec r.ensures a.row b.requires.1 c.key_column-at.result k blank, c.read_column-c.ensures.proper, cell-proper a.p a.places a.s.now a.t g b.requires.1.known rec r.ensures a.row b.requires.1 c.loop-j.j l blank, omega arith),
+      unique-found a.p a.places a.s.now a.t g b.requires.1.known rec r.ensures (text_bytes c.read_name-name.result) c.read_name-name.ensures.0 c.key_column-at.result c.key_column-at.ensures c.loop-j.j l (column_of c.read_column-c.result) c.read_column-c.ensures.is,
     )
 
-is-accepted-requires : tie.Need-is-accepted-requires invariant-loop decreases-loop
+is-accepted-requires : tie.Need-is_accepted-requires invariant-loop decreases-loop
 is-accepted-requires c κs =
     tt
 
-returns : tie.Need-returns invariant-loop decreases-loop
+returns : tie.Need-returns-then-not-is_accepted invariant-loop decreases-loop
 returns c =
     let b = c.before.before.before.before.before.before.before.before.before.before.before.before.before.before in
     let a = b.args in
     let g = b.requires.0 in
-    let r = c.before.before.before.before.before.before.before.before.before.before.before.before.table-record in
+    let r = c.table_record-rec in
     let rec = r.result.now in
-    let l : c.before.before.before.before.before.before.loop.j < length (columns_of a.p rec) = omega (arith, c.before.before.before.before.before.loop-test.true, c.before.before.before.before.before.before.before.before.before.column-count.ensures, count-byte a.p rec) in
-    fault-found a.p a.places a.s.now a.t g b.requires.1.known rec r.ensures a.row b.requires.1 a.update (text_bytes c.before.before.before.before.before.before.before.before.before.before.before.read_name.result) c.before.before.before.before.before.before.before.before.before.before.before.read_name.ensures.0 c.before.before.before.before.before.before.before.before.before.before.key-column.result c.before.before.before.before.before.before.before.before.before.before.key-column.ensures blank c.before.before.before.before.before.before.loop.j l
-    (column_of c.before.before.before.before.read-column.result)
-    c.before.before.before.before.read-column.ensures.is
-    c.before.before.cell-fault.result
-    c.before.before.cell-fault.ensures
-    (sym c.before.is-accepted.ensures ∙ not-true _ c.if1.true)
-    c.before.before.before.before.before.before.loop.invariant.1
+    let l : c.loop-j.j < length (columns_of a.p rec) = omega (arith, c.loop-j-test.true, c.column_count-count.ensures, count-byte a.p rec) in
+    fault-found a.p a.places a.s.now a.t g b.requires.1.known rec r.ensures a.row b.requires.1 a.update (text_bytes c.read_name-name.result) c.read_name-name.ensures.0 c.key_column-at.result c.key_column-at.ensures blank c.loop-j.j l
+    (column_of c.read_column-c.result)
+    c.read_column-c.ensures.is
+    c.cell_fault-f.result
+    c.cell_fault-f.ensures
+    (sym c.is_accepted.ensures ∙ not-true _ c.if-not-is_accepted.true)
+    c.loop-j.invariant.1
 
-add-j : tie.Need-overflow-add-j invariant-loop decreases-loop
+add-j : tie.Need-overflow_add-j invariant-loop decreases-loop
 add-j c =
     let b = c.before.before.before.before.before.before.before.before.before.before.before.before.before.before in
     let a = b.args in
     let g = b.requires.0 in
-    let r = c.before.before.before.before.before.before.before.before.before.before.before.before.table-record in
+    let r = c.table_record-rec in
     let rec = r.result.now in
-    let l : c.before.before.before.before.before.before.loop.j < length (columns_of a.p rec) = omega (arith, c.before.before.before.before.before.loop-test.true, c.before.before.before.before.before.before.before.before.before.column-count.ensures, count-byte a.p rec) in
+    let l : c.loop-j.j < length (columns_of a.p rec) = omega (arith, c.loop-j-test.true, c.column_count-count.ensures, count-byte a.p rec) in
     let e = few-columns-8 a.p a.places a.s.now a.t g b.requires.1.known rec r.ensures a.row b.requires.1 in
     omega arith
 
-loop-less : tie.Need-loop-smaller invariant-loop decreases-loop
+loop-less : tie.Need-loop-j-smaller invariant-loop decreases-loop
 loop-less c =
-    omega (arith, c.before.before.before.before.before.loop-test.true)
+    omega (arith, c.loop-j-test.true)
 
-loop-again : tie.Need-loop-preserved invariant-loop decreases-loop
+loop-again : tie.Need-loop-j-preserved invariant-loop decreases-loop
 loop-again c =
     let b = c.before.before.before.before.before.before.before.before.before.before.before.before.before.before in
     let a = b.args in
     let g = b.requires.0 in
-    let r = c.before.before.before.before.before.before.before.before.before.before.before.before.table-record in
+    let r = c.table_record-rec in
     let rec = r.result.now in
-    let l : c.before.before.before.before.before.before.loop.j < length (columns_of a.p rec) = omega (arith, c.before.before.before.before.before.loop-test.true, c.before.before.before.before.before.before.before.before.before.column-count.ensures, count-byte a.p rec) in (
-      omega (arith, c.before.before.before.before.before.loop-test.true),
-      fault-none a.p a.places a.s.now a.t g b.requires.1.known rec r.ensures a.row b.requires.1 a.update (text_bytes c.before.before.before.before.before.before.before.before.before.before.before.read_name.result) c.before.before.before.before.before.before.before.before.before.before.before.read_name.ensures.0 c.before.before.before.before.before.before.before.before.before.before.key-column.result c.before.before.before.before.before.before.before.before.before.before.key-column.ensures blank c.before.before.before.before.before.before.loop.j l
-          (column_of c.before.before.before.before.read-column.result)
-          c.before.before.before.before.read-column.ensures.is
-          c.before.before.cell-fault.result
-          c.before.before.cell-fault.ensures
-          (sym c.before.is-accepted.ensures ∙ not-false _ c.if1.false)
-          c.before.before.before.before.before.before.loop.invariant.1,
+    let l : c.loop-j.j < length (columns_of a.p rec) = omega (arith, c.loop-j-test.true, c.column_count-count.ensures, count-byte a.p rec) in (
+      omega (arith, c.loop-j-test.true),
+      fault-none a.p a.places a.s.now a.t g b.requires.1.known rec r.ensures a.row b.requires.1 a.update (text_bytes c.read_name-name.result) c.read_name-name.ensures.0 c.key_column-at.result c.key_column-at.ensures blank c.loop-j.j l
+          (column_of c.read_column-c.result)
+          c.read_column-c.ensures.is
+          c.cell_fault-f.result
+          c.cell_fault-f.ensures
+          (sym c.is_accepted.ensures ∙ not-false _ c.if-not-is_accepted.false)
+          c.loop-j.invariant.1,
     )
 
-returns-2 : tie.Need-returns-2 invariant-loop decreases-loop
+returns-2 : tie.Need-returns invariant-loop decreases-loop
 returns-2 c =
     let b = c.before.before.before.before.before.before.before.before.before in
     let a = b.args in
     let g = b.requires.0 in
-    let r = c.before.before.before.before.before.before.before.table-record in
+    let r = c.table_record-rec in
     let rec = r.result.now in
-    faults-over a.p a.places a.s.now a.t g b.requires.1.known rec r.ensures a.row b.requires.1 a.update c.before.loop.j (omega (arith, c.loop-test.false, c.before.before.before.before.column-count.ensures, count-byte a.p rec)) c.before.loop.invariant.1
+    faults-over a.p a.places a.s.now a.t g b.requires.1.known rec r.ensures a.row b.requires.1 a.update c.loop-j.j (omega (arith, c.loop-j-test.false, c.column_count-count.ensures, count-byte a.p rec)) c.loop-j.invariant.1
 
-pub cells-fault-spec : {M : Type 1} → statement M
-cells-fault-spec =
+pub cells_fault_spec : {M : Type 1} → statement M
+cells_fault_spec =
     tie.close
     (tie.spec
     invariant-loop

@@ -10,54 +10,54 @@ use borrow.Author.Rules.{rules}
 use Rattle.checks.proofs.row_fault.is_repeated.Statement.{statement}
 use Rattle.checks.proofs.row_fault.is_repeated.Tie as tie
 
-returns : tie.Need-returns
+returns : tie.Need-returns-then-not-c
 returns c =
     let b = c.before.before.before in
     let a = b.args in
     not-unique (parse a.p a.places a.s.now).rows (table_with (text_bytes a.name) a.at) a.update (meaning a.key) a.column (column_of a.c) (meaning a.v)
-    c.if1.true
+    c.if-not-c.true
 
-returns-2 : tie.Need-returns-2
+returns-2 : tie.Need-returns-then-column-at
 returns-2 c =
     let b = c.before.before.before.before in
     let a = b.args in
     key-exempt (parse a.p a.places a.s.now).rows (table_with (text_bytes a.name) a.at) a.update (meaning a.key) a.column (column_of a.c) (meaning a.v)
-    c.before.if1.false
-    c.if2.true
+    c.if-not-c.false
+    c.if-column-at.true
 
-is-undefined-requires : tie.Need-is-undefined-requires
+is-undefined-requires : tie.Need-is_undefined-requires
 is-undefined-requires c κs = search rules
 
-returns-3 : tie.Need-returns-3
+returns-3 : tie.Need-returns-then-is_undefined
 returns-3 c =
     let b = c.before.before.before.before.before.before in
     let a = b.args in
     undefined-exempt (parse a.p a.places a.s.now).rows (table_with (text_bytes a.name) a.at) a.update (meaning a.key) a.column (column_of a.c) (meaning a.v)
-    c.before.before.before.if1.false
-    c.before.before.if2.false
-    (sym c.before.is-undefined.ensures ∙ c.if3.true)
+    c.if-not-c.false
+    c.if-column-at.false
+    (sym c.is_undefined.ensures ∙ c.if-is_undefined.true)
 
-cast-is-taken : tie.Need-overflow-cast-is-taken
+cast-is-taken : tie.Need-overflow_cast-column
 cast-is-taken c = search rules
 
-is-taken-requires : tie.Need-is-taken-requires
+is-taken-requires : tie.Need-is_taken-requires
 is-taken-requires c κs =
     let b = c.before.before.before.before.before.before in
-    ((b.requires.0.0, b.requires.0.1, b.requires.0.3, b.requires.0.2), b.requires.1 (not-false _ c.before.before.before.if1.false) (ne_eqb b.args.column b.args.at c.before.before.if2.false))
+    ((b.requires.0.0, b.requires.0.1, b.requires.0.3, b.requires.0.2), b.requires.1 (not-false _ c.if-not-c.false) (ne_eqb b.args.column b.args.at c.if-column-at.false))
 
-returns-4 : tie.Need-returns-4
+returns-4 : tie.Need-returns
 returns-4 c =
     let b = c.before.before.before.before.before.before.before in
     let a = b.args in
     taken-decides (parse a.p a.places a.s.now).rows (table_with (text_bytes a.name) a.at) a.update (meaning a.key) a.column (column_of a.c) (meaning a.v)
-    c.before.before.before.before.if1.false
-    c.before.before.before.if2.false
-    (sym c.before.before.is-undefined.ensures ∙ c.before.if3.false)
-    c.is-taken.result
-    c.is-taken.ensures
+    c.if-not-c.false
+    c.if-column-at.false
+    (sym c.is_undefined.ensures ∙ c.if-is_undefined.false)
+    c.is_taken.result
+    c.is_taken.ensures
 
-pub is-repeated-spec : {M : Type 1} → statement M
-is-repeated-spec =
+pub is_repeated_spec : {M : Type 1} → statement M
+is_repeated_spec =
     tie.close
     (tie.spec
     returns

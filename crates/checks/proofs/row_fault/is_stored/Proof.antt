@@ -9,24 +9,24 @@ use borrow.Author.Rules.{rules}
 use Rattle.checks.proofs.row_fault.is_stored.Statement.{statement}
 use Rattle.checks.proofs.row_fault.is_stored.Tie as tie
 
-find-row-requires : tie.Need-find-row-requires
+find-row-requires : tie.Need-find_row-requires
 find-row-requires c κs = search rules
 
-enum_told : tie.Need-enum-told
+enum_told : tie.Need-enum_told-1
 enum_told c = search rules
 
-enum-told-2 : tie.Need-enum-told-2
+enum-told-2 : tie.Need-enum_told-in-Nothing
 enum-told-2 c = search rules
 
-returns : tie.Need-returns
+returns : tie.Need-returns-in-At
 returns c =
-    let a = c.before.before.before.before.args in
-    place-some (is_row (text_bytes a.name) (meaning a.key)) (parse a.p a.places a.s.now).rows _ (ap found_at (sym c.enum_told.given.1) ∙ c.before.before.find-row.ensures)
+    let a = c.args in
+    place-some (is_row (text_bytes a.name) (meaning a.key)) (parse a.p a.places a.s.now).rows _ (ap found_at (sym c.in-At.is) ∙ c.find_row.ensures)
 
-returns-2 : tie.Need-returns-2
+returns-2 : tie.Need-returns-in-Nothing
 returns-2 c =
-    let a = c.before.before.before.before.args in
-    place_none (is_row (text_bytes a.name) (meaning a.key)) (parse a.p a.places a.s.now).rows (ap found_at (sym c.enum-told2.given.1) ∙ c.before.before.find-row.ensures)
+    let a = c.args in
+    place_none (is_row (text_bytes a.name) (meaning a.key)) (parse a.p a.places a.s.now).rows (ap found_at (sym c.in-Nothing.is) ∙ c.find_row.ensures)
 
-pub is-stored-spec : {M : Type 1} → statement M
-is-stored-spec = tie.close (tie.spec find-row-requires enum_told enum-told-2 returns returns-2)
+pub is_stored_spec : {M : Type 1} → statement M
+is_stored_spec = tie.close (tie.spec find-row-requires enum_told enum-told-2 returns returns-2)

@@ -10,15 +10,15 @@ use borrow.Author.Rules.{rules}
 use Rattle.checks.proofs.row_fault.is_taken.Statement.{statement}
 use Rattle.checks.proofs.row_fault.is_taken.Tie as tie
 
-entry-rank-requires : tie.Need-entry-rank-requires
+entry-rank-requires : tie.Need-entry_rank-i-requires
 entry-rank-requires c κs =
     let b = c.before in
     (held-entered b.args.p b.args.places b.args.s.now b.requires.0.0, record { name = b.requires.0.1; value = b.requires.0.2; key = null-proper })
 
-is-other-requires : tie.Need-is-other-requires
+is-other-requires : tie.Need-is_other-requires
 is-other-requires c κs = search rules
 
-returns : tie.Need-returns
+returns : tie.Need-returns-then-is_other
 returns c =
     let b = c.before.before.before.before in
     let a = b.args in
@@ -29,22 +29,22 @@ returns c =
     (entries_in a.p a.places s)
     (entries-are a.p a.places s l)
     (held-entered a.p a.places s l).sorted
-    c.before.before.entry-rank.result
-    (rank-null (text_bytes a.name) a.column (meaning a.v) (entries_in a.p a.places s) _ c.before.before.entry-rank.result null-means c.before.before.entry-rank.ensures)
-    c.before.is-other.result
-    c.before.is-other.ensures
-    c.if1.true
+    c.entry_rank-i.result
+    (rank-null (text_bytes a.name) a.column (meaning a.v) (entries_in a.p a.places s) _ c.entry_rank-i.result null-means c.entry_rank-i.ensures)
+    c.is_other.result
+    c.is_other.ensures
+    c.if-is_other.true
 
-add-is-other : tie.Need-overflow-add-is-other
+add-is-other : tie.Need-overflow_add-i
 add-is-other c =
     let b = c.before.before.before.before in
     let a = b.args in
-    omega (arith, rank-small a.p a.places a.s.now b.requires.0.0 _ c.before.before.entry-rank.result c.before.before.entry-rank.ensures)
+    omega (arith, rank-small a.p a.places a.s.now b.requires.0.0 _ c.entry_rank-i.result c.entry_rank-i.ensures)
 
-is-other-requires-2 : tie.Need-is-other-requires-2
+is-other-requires-2 : tie.Need-is_other-requires-2
 is-other-requires-2 c κs = search rules
 
-returns-2 : tie.Need-returns-2
+returns-2 : tie.Need-returns
 returns-2 c =
     let b = c.before.before.before.before.before in
     let a = b.args in
@@ -55,16 +55,16 @@ returns-2 c =
     (entries_in a.p a.places s)
     (entries-are a.p a.places s l)
     (held-entered a.p a.places s l).sorted
-    c.before.before.before.entry-rank.result
-    (rank-null (text_bytes a.name) a.column (meaning a.v) (entries_in a.p a.places s) _ c.before.before.before.entry-rank.result null-means c.before.before.before.entry-rank.ensures)
-    c.before.before.is-other.result
-    c.before.before.is-other.ensures
-    c.before.if1.false
-    c.is-other2.result
-    c.is-other2.ensures
+    c.entry_rank-i.result
+    (rank-null (text_bytes a.name) a.column (meaning a.v) (entries_in a.p a.places s) _ c.entry_rank-i.result null-means c.entry_rank-i.ensures)
+    c.is_other.result
+    c.is_other.ensures
+    c.if-is_other.false
+    c.is_other-2.result
+    c.is_other-2.ensures
 
-pub is-taken-spec : {M : Type 1} → statement M
-is-taken-spec =
+pub is_taken_spec : {M : Type 1} → statement M
+is_taken_spec =
     tie.close
     (tie.spec
     entry-rank-requires

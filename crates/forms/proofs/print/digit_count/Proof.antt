@@ -8,39 +8,39 @@ use Rattle.forms.proofs.Digits.{Turn, turn, count-zero}
 use Rattle.forms.proofs.print.digit_count.Statement.{statement}
 use Rattle.forms.proofs.print.digit_count.Tie as tie
 
-abbrev invariant-loop : tie.invariant-loop
+abbrev invariant-loop : tie.invariant-loop-rest
 invariant-loop m n₀ rest₀ n rest = (n + count (20 - n) rest ≡ count 20 m) × (n ≤ 20) × (rest < 10 ^ (20 - n))
 
-abbrev decreases-loop : tie.decreases-loop
+abbrev decreases-loop : tie.decreases-loop-rest
 decreases-loop m n₀ rest₀ n rest = 20 - n
 
-loop-holds : tie.Need-loop-init invariant-loop decreases-loop
+loop-holds : tie.Need-loop-rest-init invariant-loop decreases-loop
 loop-holds c = (zero-add _, omega arith, omega (arith, c.ranges.m.fits))
 
-step : (c : tie.In-loop invariant-loop decreases-loop) → Turn c.before.loop.n c.before.loop.rest
-step c = turn c.before.loop.n c.before.loop.rest c.loop-test.true c.before.loop.invariant.2
+step : (c : tie.In-loop-rest invariant-loop decreases-loop) → Turn c.loop-rest.n c.loop-rest.rest
+step c = turn c.loop-rest.n c.loop-rest.rest c.loop-rest-test.true c.loop-rest.invariant.2
 
-done : (c : tie.After-loop invariant-loop decreases-loop) → c.before.loop.n ≡ count 20 c.before.before.args.m
+done : (c : tie.After-loop-rest invariant-loop decreases-loop) → c.loop-rest.n ≡ count 20 c.args.m
 done c =
-    let e : c.before.loop.rest ≡ 0 = omega arith in
-    let z : count (20 - c.before.loop.n) c.before.loop.rest ≡ 0 = ap (count (20 - c.before.loop.n)) e ∙ count-zero (20 - c.before.loop.n) in
-    omega (arith, c.before.loop.invariant.0)
+    let e : c.loop-rest.rest ≡ 0 = omega arith in
+    let z : count (20 - c.loop-rest.n) c.loop-rest.rest ≡ 0 = ap (count (20 - c.loop-rest.n)) e ∙ count-zero (20 - c.loop-rest.n) in
+    omega (arith, c.loop-rest.invariant.0)
 
-add-n : tie.Need-overflow-add-n invariant-loop decreases-loop
+add-n : tie.Need-overflow_add-n invariant-loop decreases-loop
 add-n c = omega (arith, (step c).room)
 
-loop-less : tie.Need-loop-smaller invariant-loop decreases-loop
+loop-less : tie.Need-loop-rest-smaller invariant-loop decreases-loop
 loop-less c = omega (arith, (step c).room)
 
-loop-again : tie.Need-loop-preserved invariant-loop decreases-loop
-loop-again c = ((step c).kept ∙ c.before.loop.invariant.0, omega (arith, (step c).room), (step c).less)
+loop-again : tie.Need-loop-rest-preserved invariant-loop decreases-loop
+loop-again c = ((step c).kept ∙ c.loop-rest.invariant.0, omega (arith, (step c).room), (step c).less)
 
-returns : tie.Need-returns invariant-loop decreases-loop
-returns c = ap (max 1) (sym c.if1.true ∙ done c.before)
+returns : tie.Need-returns-then-n-eq0 invariant-loop decreases-loop
+returns c = ap (max 1) (sym c.if-n-eq0.true ∙ done c.before)
 
-returns-2 : tie.Need-returns-2 invariant-loop decreases-loop
+returns-2 : tie.Need-returns invariant-loop decreases-loop
 returns-2 c = sym (max-eq_right (omega arith)) ∙ ap (max 1) (done c.before)
 
-pub digit-count-spec : {M : Type 1} → statement M
-digit-count-spec =
+pub digit_count_spec : {M : Type 1} → statement M
+digit_count_spec =
     tie.close (tie.spec invariant-loop decreases-loop loop-holds add-n loop-less loop-again returns returns-2)

@@ -14,52 +14,52 @@ use Rattle.forms.proofs.Fronts.{shown, shown-integer}
 use Rattle.forms.proofs.print.print_value.Statement.{statement}
 use Rattle.forms.proofs.print.print_value.Tie as tie
 
-enum_told : tie.Need-enum-told
+enum_told : tie.Need-enum_told-1
 enum_told c = search rules
 
 slice-aggregate-put-bytes : tie.Need-slice-aggregate-put-bytes
 slice-aggregate-put-bytes c = search rules
 
-put-bytes-requires : tie.Need-put-bytes-requires
+put-bytes-requires : tie.Need-put_bytes-requires
 put-bytes-requires c κs = search rules
 
-enum-known-v : tie.Need-enum-known-v
+enum-known-v : tie.Need-enum_known-v
 enum-known-v c = search rules
 
 slice-aggregate-put-bytes-2 : tie.Need-slice-aggregate-put-bytes-2
 slice-aggregate-put-bytes-2 c = search rules
 
-put-bytes-requires-2 : tie.Need-put-bytes-requires-2
+put-bytes-requires-2 : tie.Need-put_bytes-requires-then-b
 put-bytes-requires-2 c κs = search rules
 
 slice-aggregate-put-bytes-3 : tie.Need-slice-aggregate-put-bytes-3
 slice-aggregate-put-bytes-3 c = search rules
 
-put-bytes-requires-3 : tie.Need-put-bytes-requires-3
+put-bytes-requires-3 : tie.Need-put_bytes-requires-else-b
 put-bytes-requires-3 c κs = search rules
 
-enum-known-v-2 : tie.Need-enum-known-v-2
+enum-known-v-2 : tie.Need-enum_known-v-in-Integer-1
 enum-known-v-2 c = search rules
 
-put-integer-requires : tie.Need-put-integer-requires
+put-integer-requires : tie.Need-put_integer-requires
 put-integer-requires c κs = search rules
 
-enum-known-v-3 : tie.Need-enum-known-v-3
+enum-known-v-3 : tie.Need-enum_known-v-in-Float-1
 enum-known-v-3 c = search rules
 
-put-float-requires : tie.Need-put-float-requires
+put-float-requires : tie.Need-put_float-requires
 put-float-requires c κs = search rules
 
-enum-known-v-4 : tie.Need-enum-known-v-4
+enum-known-v-4 : tie.Need-enum_known-v-in-Text-1
 enum-known-v-4 c = search rules
 
-put-text-requires : tie.Need-put-text-requires
+put-text-requires : tie.Need-put_text-requires
 unfolding Proper
 put-text-requires c κs =
-    let d = c.before.before in
-    (search rules, subst Proper d.v4.given.1 d.before.before.before.requires.1)
+    let d = c.before in
+    (search rules, subst Proper d.in-Text.is d.requires.1)
 
-same_length : tie.Need-same-length
+same_length : tie.Need-shape_of-out-in-Null
 same_length c = search rules
 
 -- a value that is known to be u is printed as u
@@ -67,66 +67,66 @@ held-as : (v u : D.Value) {out after : List ℕ} {r : ℕ} → v ≡ u → Front
     → Front (printed (meaning v)) out after r × (r ≤ print_most)
 held-as v u e f = rw e f
 
-returns : tie.Need-returns
+returns : tie.Need-returns-in-Null
 unfolding meaning printed
 returns c =
     let p = c.before.before in
-    held-as _ Null p.before.before.before.enum_told.given.1 (shown null p.put-bytes.ensures refl (omega arith))
+    held-as _ Null p.in-Null.is (shown null p.put_bytes.ensures refl (omega arith))
 
-same-length-2 : tie.Need-same-length-2
+same-length-2 : tie.Need-shape_of-out-then-b
 same-length-2 c = search rules
 
-returns-2 : tie.Need-returns-2
+returns-2 : tie.Need-returns-then-b
 unfolding meaning printed
 returns-2 c =
     let p = c.before.before in
     let t = p.before.before.before in
-    let v = t.before.before.v.given in
-    held-as _ (Boolean true) (v.1 ∙ ap Boolean t.if1.true) (shown (boolean true) p.put-bytes2.ensures refl (omega arith))
+    let v = t in
+    held-as _ (Boolean true) (v.in-Boolean.is ∙ ap Boolean t.if-b.true) (shown (boolean true) p.put_bytes-then-b.ensures refl (omega arith))
 
-same-length-3 : tie.Need-same-length-3
+same-length-3 : tie.Need-shape_of-out-else-b
 same-length-3 c = search rules
 
-returns-3 : tie.Need-returns-3
+returns-3 : tie.Need-returns-else-b
 unfolding meaning printed
 returns-3 c =
     let p = c.before.before in
     let t = p.before.before.before in
-    let v = t.before.before.v.given in
-    held-as _ (Boolean false) (v.1 ∙ ap Boolean t.if1.false) (shown (boolean false) p.put-bytes3.ensures refl (omega arith))
+    let v = t in
+    held-as _ (Boolean false) (v.in-Boolean.is ∙ ap Boolean t.if-b.false) (shown (boolean false) p.put_bytes-else-b.ensures refl (omega arith))
 
-same-length-4 : tie.Need-same-length-4
+same-length-4 : tie.Need-shape_of-out-in-Integer
 same-length-4 c = search rules
 
-returns-4 : tie.Need-returns-4
+returns-4 : tie.Need-returns-in-Integer
 unfolding meaning
 returns-4 c =
     let p = c.before.before in
-    let v = p.before.before.before.v2.given in
-    held-as _ (Integer v.0.0) v.1 (shown-integer v.0.0 (record { sfits = p.before.before.known-told2.given.0.1 }) p.put-integer.ensures)
+    let v = p in
+    held-as _ (Integer v.in-Integer.z) v.in-Integer.is (shown-integer v.in-Integer.z (record { sfits = p.in-Integer.known_told-in-Integer-1-own.given.0.1 }) p.put_integer.ensures)
 
-same-length-5 : tie.Need-same-length-5
+same-length-5 : tie.Need-shape_of-out-in-Float
 same-length-5 c = search rules
 
-returns-5 : tie.Need-returns-5
+returns-5 : tie.Need-returns-in-Float
 unfolding meaning
 returns-5 c =
     let p = c.before.before in
-    let v = p.before.before.before.v3.given in
-    held-as _ (Float v.0.0) v.1 p.put-float.ensures
+    let v = p in
+    held-as _ (Float v.in-Float.x) v.in-Float.is p.put_float.ensures
 
-same-length-6 : tie.Need-same-length-6
+same-length-6 : tie.Need-shape_of-out-in-Text
 same-length-6 c = search rules
 
-returns-6 : tie.Need-returns-6
+returns-6 : tie.Need-returns-in-Text
 unfolding meaning
 returns-6 c =
     let p = c.before.before in
-    let v = p.before.before.before.v4.given in
-    held-as _ (Words v.0.0) v.1 p.put-text.ensures
+    let v = p in
+    held-as _ (Words v.in-Text.t) v.in-Text.is p.put_text.ensures
 
-pub print-value-spec : {M : Type 1} → statement M
-print-value-spec =
+pub print_value_spec : {M : Type 1} → statement M
+print_value_spec =
     tie.close
     (tie.spec
     enum_told

@@ -11,71 +11,71 @@ use Rattle.forms.proofs.Fronts.{hex-step}
 use Rattle.forms.proofs.print.put_hex.Statement.{statement}
 use Rattle.forms.proofs.print.put_hex.Tie as tie
 
-abbrev invariant-loop : tie.invariant-loop
+abbrev invariant-loop : tie.invariant-loop-i
 invariant-loop out₀ s i₀ out i = (i ≤ length s) × (length out ≡ length out₀) × (length out₀ ≡ 2 * length s) × (take (2 * i) out ≡ hex (take i s))
 
-abbrev decreases-loop : tie.decreases-loop
+abbrev decreases-loop : tie.decreases-loop-i
 decreases-loop out₀ s i₀ out i = length s - i
 
 none : ◌≡◌ {A = List ℕ} [] (hex [])
 unfolding hex
 none = refl
 
-loop-holds : tie.Need-loop-init invariant-loop decreases-loop
-loop-holds c = (search rules, refl, c.before.before.requires, none)
+loop-holds : tie.Need-loop-i-init invariant-loop decreases-loop
+loop-holds c = (search rules, refl, c.requires, none)
 
-shared-slice-read-b : tie.Need-shared-slice-read-b invariant-loop decreases-loop
+shared-slice-read-b : tie.Need-bounds-s-i invariant-loop decreases-loop
 shared-slice-read-b c = omega arith
 
-mul-p : tie.Need-overflow-mul-p invariant-loop decreases-loop
+mul-p : tie.Need-overflow_mul-p invariant-loop decreases-loop
 mul-p c = omega arith
 
-hex-digit-requires : tie.Need-hex-digit-requires invariant-loop decreases-loop
-hex-digit-requires c κs = omega (arith, c.shared-slice-known2.given c.before.before.loop.i)
+hex-digit-requires : tie.Need-hex_digit-requires invariant-loop decreases-loop
+hex-digit-requires c κs = omega (arith, c.shared_slice_known-in-loop-i-1.given c.loop-i.i)
 
-slice-write-out : tie.Need-slice-write-out invariant-loop decreases-loop
+slice-write-out : tie.Need-bounds-out-p invariant-loop decreases-loop
 slice-write-out c = omega arith
 
-hex-digit-requires-2 : tie.Need-hex-digit-requires-2 invariant-loop decreases-loop
+hex-digit-requires-2 : tie.Need-hex_digit-requires-in-loop-i invariant-loop decreases-loop
 hex-digit-requires-2 c κs = omega arith
 
-add-out : tie.Need-overflow-add-out invariant-loop decreases-loop
+add-out : tie.Need-overflow_add-out invariant-loop decreases-loop
 add-out c = omega arith
 
-slice-write-out-2 : tie.Need-slice-write-out-2 invariant-loop decreases-loop
+slice-write-out-2 : tie.Need-bounds-out-p-in-loop-i invariant-loop decreases-loop
 slice-write-out-2 c = simp length-set (omega arith)
 
-add-i : tie.Need-overflow-add-i invariant-loop decreases-loop
+add-i : tie.Need-overflow_add-i invariant-loop decreases-loop
 add-i c = omega arith
 
-loop-less : tie.Need-loop-smaller invariant-loop decreases-loop
+loop-less : tie.Need-loop-i-smaller invariant-loop decreases-loop
 loop-less c = omega arith
 
-loop-again : tie.Need-loop-preserved invariant-loop decreases-loop
+loop-again : tie.Need-loop-i-preserved invariant-loop decreases-loop
 loop-again c =
     let b = c.before.before.before.before in
-    let s = b.before.before.before.args.s.now in
-    let l = b.loop in
+    let s = b.args.s.now in
+    let l = b.loop-i in
     let n : length l.out ≡ 2 * length s = omega arith in (
       omega arith,
       simp length-set l.invariant.1,
       l.invariant.2,
-      hex-step l.out s l.i _ _ c.before.before.before.loop-test.true n c.before.hex-digit.ensures c.hex-digit2.ensures l.invariant.3,
+      hex-step l.out s l.i _ _ c.loop-i-test.true n c.hex_digit.ensures c.hex_digit-in-loop-i.ensures l.invariant.3,
     )
 
-same_length : tie.Need-same-length invariant-loop decreases-loop
-same_length c = c.before.loop.invariant.1
+same_length : tie.Need-shape_of-out invariant-loop decreases-loop
+same_length c = c.loop-i.invariant.1
 
 returns : tie.Need-returns invariant-loop decreases-loop
 returns c =
-    let l = c.before.loop in
-    let s = c.before.before.before.before.args.s.now in
+    let l = c.loop-i in
+    let s = c.args.s.now in
     let e : l.i ≡ length s = omega arith in
     let f : 2 * l.i ≡ length l.out = omega arith in
     sym (take-length l.out) ∙ ap (λ (n : ℕ). take n l.out) (sym f) ∙ l.invariant.3 ∙ ap (λ (n : ℕ). hex (take n s)) e ∙ ap hex (take-length s)
 
-pub put-hex-spec : {M : Type 1} → statement M
-put-hex-spec =
+pub put_hex_spec : {M : Type 1} → statement M
+put_hex_spec =
     tie.close
     (tie.spec
     invariant-loop

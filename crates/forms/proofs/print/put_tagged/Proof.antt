@@ -10,45 +10,45 @@ use Rattle.forms.proofs.Fronts.{front-tagged, hex-long}
 use Rattle.forms.proofs.print.put_tagged.Tie as tie
 use Rattle.forms.proofs.print.put_tagged.Statement.{statement}
 
-slice-write-out : tie.Need-slice-write-out
+slice-write-out : tie.Need-bounds-out-0
 slice-write-out c = search rules
 
-slice-write-out-2 : tie.Need-slice-write-out-2
+slice-write-out-2 : tie.Need-bounds-out-1
 slice-write-out-2 c = simp length-set (omega arith)
 
-mul-end : tie.Need-overflow-mul-end
+mul-end : tie.Need-overflow_mul-end
 mul-end c = search rules
 
-add-end : tie.Need-overflow-add-end
+add-end : tie.Need-overflow_add-end
 add-end c = search rules
 
-sub-put-hex : tie.Need-overflow-sub-put-hex
+sub-put-hex : tie.Need-slice_bounds-put_hex-count
 sub-put-hex c = search rules
 
-part-put-hex-start : tie.Need-slice-bounds-put-hex-start
+part-put-hex-start : tie.Need-slice_bounds-put_hex-start
 part-put-hex-start c = search rules
 
-part-put-hex-end : tie.Need-slice-bounds-put-hex-end
+part-put-hex-end : tie.Need-slice_bounds-put_hex-end
 part-put-hex-end c = search rules
 
-put-hex-requires : tie.Need-put-hex-requires
+put-hex-requires : tie.Need-put_hex-requires
 put-hex-requires c κs = search rules
 
-same_length : tie.Need-same-length
+same_length : tie.Need-shape_of-out
 same_length c =
-    let a = c.before.before.before.before.before.before.args in
-    let p = c.before.before.put-hex in
+    let a = c.args in
+    let p = c.put_hex in
     same_len_mid 2 (2 + 2 * length a.s.now - 2) (set (set a.out.now 0 a.letter) 1 58) p.new.0 p.auto.0 ∙ simp length-set
 
 returns : tie.Need-returns
 returns c =
     let d = c.before.before.before.before.before.before in
     let a = d.args in
-    let p = c.before.before.put-hex in
+    let p = c.put_hex in
     front-tagged a.letter 58 (2 * length a.s.now) a.out.now p.new.0 (hex a.s.now) d.requires (hex-long a.s.now) p.ensures
 
-pub put-tagged-spec : {M : Type 1} → statement M
-put-tagged-spec =
+pub put_tagged_spec : {M : Type 1} → statement M
+put_tagged_spec =
     tie.close
     (tie.spec
     slice-write-out

@@ -4,42 +4,42 @@ use Rattle.forms.proofs.Fronts.{shown-text}
 use Rattle.forms.proofs.print.put_text.Statement.{statement}
 use Rattle.forms.proofs.print.put_text.Tie as tie
 
-slice-aggregate-write-name : tie.Need-slice-aggregate-write-name
+slice-aggregate-write-name : tie.Need-slice_bounds-write_name-end
 slice-aggregate-write-name c = search rules
 
-write-name-requires : tie.Need-write-name-requires
+write-name-requires : tie.Need-write_name-requires
 write-name-requires c κs = search rules
 
-cast-end : tie.Need-overflow-cast-end
+cast-end : tie.Need-overflow_cast-end
 cast-end c = search rules
 
-add-end : tie.Need-overflow-add-end
+add-end : tie.Need-overflow_add-end
 add-end c = search rules
 
-sub-put-tagged : tie.Need-overflow-sub-put-tagged
+sub-put-tagged : tie.Need-slice_bounds-put_tagged-count
 sub-put-tagged c = search rules
 
-part-put-tagged-start : tie.Need-slice-bounds-put-tagged-start
+part-put-tagged-start : tie.Need-slice_bounds-put_tagged-start
 part-put-tagged-start c = search rules
 
-part-put-tagged-end : tie.Need-slice-bounds-put-tagged-end
+part-put-tagged-end : tie.Need-slice_bounds-put_tagged-end
 part-put-tagged-end c = search rules
 
-put-tagged-requires : tie.Need-put-tagged-requires
+put-tagged-requires : tie.Need-put_tagged-requires
 put-tagged-requires c κs = search rules
 
-same_length : tie.Need-same-length
+same_length : tie.Need-shape_of-out
 same_length c = search rules
 
 returns : tie.Need-returns
 returns c =
     let t = c.before.before in
     let w = t.before.before.before.before.before.before in
-    let a = w.before.before.before in
-    shown-text a.args.t w.write-name.new.0 a.requires.1 w.write-name.ensures t.put-tagged.ensures
+    let a = w.before in
+    shown-text a.args.t w.write-name.new.0 a.requires.1 w.write-name.ensures t.put_tagged.ensures
 
-pub put-text-spec : {M : Type 1} → statement M
-put-text-spec =
+pub put_text_spec : {M : Type 1} → statement M
+put_text_spec =
     tie.close
     (tie.spec
     slice-aggregate-write-name

@@ -8,41 +8,41 @@ use Rattle.journal.proofs.Halfway.{Forth, half-long, forth-start, forth-ready, f
 use Rattle.journal.proofs.back.rewind.Statement.{statement}
 use Rattle.journal.proofs.back.rewind.Tie as tie
 
-abbrev invariant-loop : tie.invariant-loop
+abbrev invariant-loop : tie.invariant-loop-i
 invariant-loop s₀ p places j₀ from count i₀ s j i = (i ≤ count) × Forth p places s₀ j₀ from i s j
 
-abbrev decreases-loop : tie.decreases-loop
+abbrev decreases-loop : tie.decreases-loop-i
 decreases-loop s₀ p places j₀ from count i₀ s j i = count - i
 
-used-requires : tie.Need-used-requires invariant-loop decreases-loop
-used-requires c κs = batch-header c.before.before.before.requires.half.batch
+used-requires : tie.Need-used-count-requires invariant-loop decreases-loop
+used-requires c κs = batch-header c.before.requires.half.batch
 
-loop-holds : tie.Need-loop-init invariant-loop decreases-loop
-loop-holds c = let a = c.before.before.before.before.args in (omega (arith, c.used.ensures, used-is a.p (parse a.p a.places a.s.now).tables a.j.now, half-long c.before.before.before.before.requires.half, c.before.before.before.before.requires.half.inside), forth-start)
+loop-holds : tie.Need-loop-i-init invariant-loop decreases-loop
+loop-holds c = let a = c.before.args in (omega (arith, c.used-count.ensures, used-is a.p (parse a.p a.places a.s.now).tables a.j.now, half-long c.before.requires.half, c.before.requires.half.inside), forth-start)
 
 turn-requires : tie.Need-turn-requires invariant-loop decreases-loop
-turn-requires c κs = let a = c.before.before.before.before.before.before.before.before.args in forth-ready c.before.before.before.before.before.before.before.before.requires c.before.before.before.loop.invariant.1 (omega (arith, c.before.before.before.before.used.ensures, used-is a.p (parse a.p a.places a.s.now).tables a.j.now, c.before.before.loop-test.true))
+turn-requires c κs = let a = c.before.args in forth-ready c.before.requires c.loop-i.invariant.1 (omega (arith, c.used-count.ensures, used-is a.p (parse a.p a.places a.s.now).tables a.j.now, c.loop-i-test.true))
 
-add-i : tie.Need-overflow-add-i invariant-loop decreases-loop
+add-i : tie.Need-overflow_add-i invariant-loop decreases-loop
 add-i c = search rules
 
-loop-less : tie.Need-loop-smaller invariant-loop decreases-loop
-loop-less c = omega (arith, c.before.before.before.before.before.before.before.loop-test.true)
+loop-less : tie.Need-loop-i-smaller invariant-loop decreases-loop
+loop-less c = omega (arith, c.loop-i-test.true)
 
-loop-again : tie.Need-loop-preserved invariant-loop decreases-loop
-loop-again c = let a = c.before.before.before.before.before.before.before.before.before.before.before.before.before.args in (omega (arith, c.before.before.before.before.before.before.before.loop-test.true), forth-turn c.before.before.before.before.before.before.before.before.loop.invariant.1 (omega (arith, c.before.before.before.before.before.before.before.before.before.used.ensures, used-is a.p (parse a.p a.places a.s.now).tables a.j.now, c.before.before.before.before.before.before.before.loop-test.true)) c.before.before.before.before.turn.ensures (search rules) (search rules))
+loop-again : tie.Need-loop-i-preserved invariant-loop decreases-loop
+loop-again c = let a = c.before.args in (omega (arith, c.loop-i-test.true), forth-turn c.loop-i.invariant.1 (omega (arith, c.used-count.ensures, used-is a.p (parse a.p a.places a.s.now).tables a.j.now, c.loop-i-test.true)) c.turn.ensures (search rules) (search rules))
 
-same_length : tie.Need-same-length invariant-loop decreases-loop
-same_length c = c.before.loop.invariant.1.long
+same_length : tie.Need-shape_of-s invariant-loop decreases-loop
+same_length c = c.loop-i.invariant.1.long
 
-same-length-2 : tie.Need-same-length-2 invariant-loop decreases-loop
-same-length-2 c = c.before.loop.invariant.1.wide
+same-length-2 : tie.Need-shape_of-j invariant-loop decreases-loop
+same-length-2 c = c.loop-i.invariant.1.wide
 
 returns : tie.Need-returns invariant-loop decreases-loop
-returns c = let a = c.before.before.before.before.before.before.args in forth-end c.before.loop.invariant.1 (omega (arith, c.before.before.used.ensures, used-is a.p (parse a.p a.places a.s.now).tables a.j.now, c.before.loop.invariant.0, c.loop-test.false))
+returns c = let a = c.before.args in forth-end c.loop-i.invariant.1 (omega (arith, c.used-count.ensures, used-is a.p (parse a.p a.places a.s.now).tables a.j.now, c.loop-i.invariant.0, c.loop-i-test.false))
 
-pub rewind-spec : {M : Type 1} → statement M
-rewind-spec =
+pub rewind_spec : {M : Type 1} → statement M
+rewind_spec =
     tie.close
     (tie.spec
     invariant-loop

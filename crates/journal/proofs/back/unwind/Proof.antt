@@ -9,56 +9,56 @@ use Rattle.journal.proofs.Halfway.{half-start, half-lengths, back-place, back-re
 use Rattle.journal.proofs.back.unwind.Statement.{statement}
 use Rattle.journal.proofs.back.unwind.Tie as tie
 
-abbrev invariant-loop : tie.invariant-loop
+abbrev invariant-loop : tie.invariant-loop-i
 invariant-loop s₀ p places j₀ i₀ s j i = Halfway p places s₀ j₀ i s j
 
-abbrev decreases-loop : tie.decreases-loop
+abbrev decreases-loop : tie.decreases-loop-i
 decreases-loop s₀ p places j₀ i₀ s j i = i
 
-used-requires : tie.Need-used-requires invariant-loop decreases-loop
-used-requires c κs = batch-header c.before.before.before.requires
+used-requires : tie.Need-used-i-requires invariant-loop decreases-loop
+used-requires c κs = batch-header c.before.requires
 
-loop-holds : tie.Need-loop-init invariant-loop decreases-loop
-loop-holds c = let a = c.before.before.before.before.args in half-start c.before.before.before.before.requires (c.used.ensures ∙ used-is a.p (parse a.p a.places a.s.now).tables a.j.now)
+loop-holds : tie.Need-loop-i-init invariant-loop decreases-loop
+loop-holds c = let a = c.before.args in half-start c.before.requires (c.used-i.ensures ∙ used-is a.p (parse a.p a.places a.s.now).tables a.j.now)
 
-sub-can-turn : tie.Need-overflow-sub-can-turn invariant-loop decreases-loop
-sub-can-turn c = c.before.before.loop-test.true
+sub-can-turn : tie.Need-overflow_sub-i invariant-loop decreases-loop
+sub-can-turn c = c.loop-test.true
 
-can-turn-requires : tie.Need-can-turn-requires invariant-loop decreases-loop
-can-turn-requires c κs = back-place c.before.before.before.loop.invariant c.before.before.loop-test.true
+can-turn-requires : tie.Need-can_turn-requires invariant-loop decreases-loop
+can-turn-requires c κs = back-place c.loop.invariant c.loop-test.true
 
-same_length : tie.Need-same-length invariant-loop decreases-loop
-same_length c = (half-lengths c.before.before.before.before.before.loop.invariant).0
+same_length : tie.Need-shape_of-s-then-not-can_turn invariant-loop decreases-loop
+same_length c = (half-lengths c.loop.invariant).0
 
-same-length-2 : tie.Need-same-length-2 invariant-loop decreases-loop
-same-length-2 c = (half-lengths c.before.before.before.before.before.loop.invariant).1
+same-length-2 : tie.Need-shape_of-j-then-not-can_turn invariant-loop decreases-loop
+same-length-2 c = (half-lengths c.loop.invariant).1
 
-returns : tie.Need-returns invariant-loop decreases-loop
-returns c = back-stuck c.before.before.before.before.before.loop.invariant c.before.before.before.before.loop-test.true (sym c.before.can-turn.ensures ∙ not-true _ c.if1.true)
+returns : tie.Need-returns-then-not-can_turn invariant-loop decreases-loop
+returns c = back-stuck c.loop.invariant c.loop-test.true (sym c.can_turn.ensures ∙ not-true _ c.if-not-can_turn.true)
 
-sub-i : tie.Need-overflow-sub-i invariant-loop decreases-loop
-sub-i c = c.before.before.before.before.loop-test.true
+sub-i : tie.Need-overflow_sub-i-in-loop-i invariant-loop decreases-loop
+sub-i c = c.loop-test.true
 
 turn-requires : tie.Need-turn-requires invariant-loop decreases-loop
-turn-requires c κs = back-ready c.before.before.before.before.before.before.before.loop.invariant c.before.before.before.before.before.before.loop-test.true (sym c.before.before.before.can-turn.ensures ∙ not-false _ c.before.before.if1.false)
+turn-requires c κs = back-ready c.loop.invariant c.loop-test.true (sym c.can_turn.ensures ∙ not-false _ c.if-not-can_turn.false)
 
-loop-less : tie.Need-loop-smaller invariant-loop decreases-loop
-loop-less c = omega (arith, c.before.before.before.before.before.before.before.before.before.before.before.loop-test.true)
+loop-less : tie.Need-loop-i-smaller invariant-loop decreases-loop
+loop-less c = omega (arith, c.loop-test.true)
 
-loop-again : tie.Need-loop-preserved invariant-loop decreases-loop
-loop-again c = back-turn c.before.before.before.before.before.before.before.before.before.before.before.before.loop.invariant c.before.before.before.before.before.before.before.before.before.before.before.loop-test.true (sym c.before.before.before.before.before.before.before.before.can-turn.ensures ∙ not-false _ c.before.before.before.before.before.before.before.if1.false) c.before.before.before.before.turn.ensures
+loop-again : tie.Need-loop-i-preserved invariant-loop decreases-loop
+loop-again c = back-turn c.loop.invariant c.loop-test.true (sym c.can_turn.ensures ∙ not-false _ c.if-not-can_turn.false) c.turn.ensures
 
-same-length-3 : tie.Need-same-length-3 invariant-loop decreases-loop
-same-length-3 c = (half-lengths c.before.loop.invariant).0
+same-length-3 : tie.Need-shape_of-s invariant-loop decreases-loop
+same-length-3 c = (half-lengths c.loop-i.invariant).0
 
-same-length-4 : tie.Need-same-length-4 invariant-loop decreases-loop
-same-length-4 c = (half-lengths c.before.loop.invariant).1
+same-length-4 : tie.Need-shape_of-j invariant-loop decreases-loop
+same-length-4 c = (half-lengths c.loop-i.invariant).1
 
-returns-2 : tie.Need-returns-2 invariant-loop decreases-loop
-returns-2 c = back-all c.before.loop.invariant (λ h. omega (arith, h, c.loop-test.false))
+returns-2 : tie.Need-returns invariant-loop decreases-loop
+returns-2 c = back-all c.loop-i.invariant (λ h. omega (arith, h, c.loop-i-test.false))
 
-pub unwind-spec : {M : Type 1} → statement M
-unwind-spec =
+pub unwind_spec : {M : Type 1} → statement M
+unwind_spec =
     tie.close
     (tie.spec
     invariant-loop

@@ -6,25 +6,25 @@ use native.Mathlib.Omega.{arith}
 use Rattle.journal.proofs.page.has_places.Statement.{statement}
 use Rattle.journal.proofs.page.has_places.Tie as tie
 
-is-open-requires : tie.Need-is-open-requires
+is-open-requires : tie.Need-is_open-requires
 is-open-requires c κs = let b = c.before in omega (arith, book-long b.requires.holds)
 
-returns : tie.Need-returns
-returns c = let b = c.before.before.before in places-closed b.args.p b.args.j.now b.args.n (sym c.before.is_open.ensures ∙ not-true _ c.if1.true)
+returns : tie.Need-returns-then-not-is_open
+returns c = let b = c.before.before.before in places-closed b.args.p b.args.j.now b.args.n (sym c.is_open.ensures ∙ not-true _ c.if-not-is_open.true)
 
-places-of-requires : tie.Need-places-of-requires
+places-of-requires : tie.Need-places_of-requires
 places-of-requires c κs = let b = c.before.before.before in (b.requires.holds.paging.coded.known, book-long b.requires.holds)
 
 used-requires : tie.Need-used-requires
 used-requires c κs = let b = c.before.before.before.before in book-long b.requires.holds
 
-sub-result : tie.Need-overflow-sub-result
-sub-result c = let b = c.before.before.before.before.before in used-few b.requires (sym c.before.before.before.is_open.ensures ∙ not-false _ c.before.before.if1.false) c.before.places_of.ensures c.used.ensures
+sub-result : tie.Need-overflow_sub-result
+sub-result c = let b = c.before.before.before.before.before in used-few b.requires (sym c.is_open.ensures ∙ not-false _ c.if-not-is_open.false) c.places_of.ensures c.used.ensures
 
-returns-2 : tie.Need-returns-2
-returns-2 c = let b = c.before.before.before.before.before in places-open b.requires (sym c.before.before.before.is_open.ensures ∙ not-false _ c.before.before.if1.false) c.before.places_of.ensures c.used.ensures b.args.n
+returns-2 : tie.Need-returns
+returns-2 c = let b = c.before.before.before.before.before in places-open b.requires (sym c.is_open.ensures ∙ not-false _ c.if-not-is_open.false) c.places_of.ensures c.used.ensures b.args.n
 
-pub has-places-spec : {M : Type 1} → statement M
-has-places-spec =
+pub has_places_spec : {M : Type 1} → statement M
+has_places_spec =
     tie.close
     (tie.spec is-open-requires returns places-of-requires used-requires sub-result returns-2)

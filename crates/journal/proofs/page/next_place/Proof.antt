@@ -5,27 +5,27 @@ use Rattle.journal.proofs.page.next_place.Statement.{statement}
 use Rattle.journal.proofs.page.next_place.Tie as tie
 use Rattle.journal.specs.Page.{with_zeros}
 
-used-requires : tie.Need-used-requires
+used-requires : tie.Need-used-i-requires
 used-requires c κs = search rules
 
-event-width-requires : tie.Need-event-width-requires
+event-width-requires : tie.Need-event_width-width-requires
 event-width-requires c κs = search rules
 
-places-of-requires : tie.Need-places-of-requires
+places-of-requires : tie.Need-places_of-places-requires
 places-of-requires c κs = search rules
 
-open-counted-requires : tie.Need-open-counted-requires
-open-counted-requires c κs = let b = c.before.before.before.before.before.before.before in rw (c.before.places_of.ensures, c.before.before.before.before.used.ensures, c.before.before.before.event-width.ensures) b.requires.grows
+open-counted-requires : tie.Need-open_counted-requires
+open-counted-requires c κs = let b = c.before.before in rw (c.places_of-places.ensures, c.used.ensures, c.event-width.ensures) b.requires.grows
 
-same_length : tie.Need-same-length
+same_length : tie.Need-shape_of-j
 same_length c = search rules
 
 returns : tie.Need-returns
 unfolding with_zeros
-returns c = let b = c.before.before.before.before.before.before.before.before.before.before in record { place = c.before.before.before.before.before.before.before.used.ensures; bytes = c.before.before.open-counted.ensures ∙ rw (c.before.before.before.before.before.before.before.used.ensures, c.before.before.before.before.places_of.ensures, c.before.before.before.before.before.before.event-width.ensures) }
+returns c = let b = c.before.before in record { place = c.used.ensures; bytes = c.open_counted.ensures ∙ rw (c.used.ensures, c.places_of-places.ensures, c.event-width.ensures) }
 
-pub next-place-spec : {M : Type 1} → statement M
-next-place-spec =
+pub next_place_spec : {M : Type 1} → statement M
+next_place_spec =
     tie.close
     (tie.spec
     used-requires

@@ -7,29 +7,29 @@ use borrow.Author.Rules.{rules}
 use Rattle.journal.proofs.page.note_row.Statement.{statement}
 use Rattle.journal.proofs.page.note_row.Tie as tie
 
-is-open-requires : tie.Need-is-open-requires
-is-open-requires c κs = let b = c.before.before.before in omega (arith, book-long b.requires.0.holds)
+is-open-requires : tie.Need-is_open-requires
+is-open-requires c κs = let b = c.before in omega (arith, book-long b.requires.0.holds)
 
-same_length : tie.Need-same-length
+same_length : tie.Need-shape_of-j-then-not-is_open
 same_length c = search rules
 
-returns : tie.Need-returns
-returns c = let b = c.before.before.before.before.before in note-none b.args.p _ (sym c.before.is_open.ensures ∙ not-true _ c.if1.true)
+returns : tie.Need-returns-then-not-is_open
+returns c = let b = c.before in note-none b.args.p _ (sym c.is_open.ensures ∙ not-true _ c.if-not-is_open.true)
 
-next-place-requires : tie.Need-next-place-requires
-next-place-requires c κs = let b = c.before.before.before.before.before.before in spacious-of b.requires.0 (sym c.before.before.is_open.ensures ∙ not-false _ c.before.if1.false)
+next-place-requires : tie.Need-next_place-i-requires
+next-place-requires c κs = let b = c.before in spacious-of b.requires.0 (sym c.is_open.ensures ∙ not-false _ c.if-not-is_open.false)
 
-put-row-requires : tie.Need-put-row-requires
-put-row-requires c κs = let b = c.before.before.before.before.before.before.before.before.before.before in (b.requires.0.holds.paging.coded.known, b.requires.1, place_of b.requires.0 (sym c.before.before.before.before.before.before.is_open.ensures ∙ not-false _ c.before.before.before.before.before.if1.false) c.before.before.before.next_place.ensures)
+put-row-requires : tie.Need-put_row-requires
+put-row-requires c κs = let b = c.before in (b.requires.0.holds.paging.coded.known, b.requires.1, place_of b.requires.0 (sym c.is_open.ensures ∙ not-false _ c.if-not-is_open.false) c.next_place-i.ensures)
 
-same-length-2 : tie.Need-same-length-2
+same-length-2 : tie.Need-shape_of-j
 same-length-2 c = search rules
 
-returns-2 : tie.Need-returns-2
-returns-2 c = let b = c.before.before.before.before.before.before.before.before.before.before.before.before.before in note-one b.requires.0 (sym c.before.before.before.before.before.before.before.before.before.is_open.ensures ∙ not-false _ c.before.before.before.before.before.before.before.before.if1.false) c.before.before.before.before.before.before.next_place.ensures _ c.before.before.put-row.ensures
+returns-2 : tie.Need-returns
+returns-2 c = let b = c.before in note-one b.requires.0 (sym c.is_open.ensures ∙ not-false _ c.if-not-is_open.false) c.next_place-i.ensures _ c.put_row.ensures
 
-pub note-row-spec : {M : Type 1} → statement M
-note-row-spec =
+pub note_row_spec : {M : Type 1} → statement M
+note_row_spec =
     tie.close
     (tie.spec
     is-open-requires

@@ -10,24 +10,24 @@ use borrow.Author.Rules.{rules}
 use Rattle.journal.proofs.turn.swap.Statement.{statement}
 use Rattle.journal.proofs.turn.swap.Tie as tie
 
-row-record-requires : tie.Need-row-record-requires
-row-record-requires c κs = let b = c.before.before.before.before in (held-inside b.args.p b.args.places b.args.s.now b.requires.0.0, row_within b.args.p b.args.places b.args.s.now b.requires.0.0 b.args.k b.requires.0.2.row.stored)
+row-record-requires : tie.Need-row_record-requires
+row-record-requires c κs = let b = c.before in (held-inside b.args.p b.args.places b.args.s.now b.requires.0.0, row_within b.args.p b.args.places b.args.s.now b.requires.0.0 b.args.k b.requires.0.2.row.stored)
 
-put-row-requires : tie.Need-put-row-requires
-put-row-requires c κs = let b = c.before.before.before.before.before in (b.requires.0.0.coded.known, row-bytes b.args.p b.args.places b.args.s.now b.requires.0.0 b.args.k b.requires.0.2.row.stored c.row-record.result.now c.row-record.ensures, b.requires.1)
+put-row-requires : tie.Need-put_row-requires
+put-row-requires c κs = let b = c.before in (b.requires.0.0.coded.known, row-bytes b.args.p b.args.places b.args.s.now b.requires.0.0 b.args.k b.requires.0.2.row.stored c.row_record.result.now c.row_record.ensures, b.requires.1)
 
-replace-row-requires : tie.Need-replace-row-requires
+replace-row-requires : tie.Need-replace_row-requires
 replace-row-requires c κs = search rules
 
-same_length : tie.Need-same-length
+same_length : tie.Need-shape_of-s
 same_length c = search rules
 
-same-length-2 : tie.Need-same-length-2
+same-length-2 : tie.Need-shape_of-j
 same-length-2 c = search rules
 
 returns : tie.Need-returns
 unfolding event_record
-returns c = let b = c.before.before.before.before.before.before.before.before.before.before.before.before in record { store = c.before.before.replace-row.ensures; journal = c.before.before.before.before.before.before.put-row.ensures ∙ ap (λ (l : List ℕ). with_record journal_header b.args.i (2 ∷ l) b.args.j.now) (c.before.before.before.before.before.before.before.row-record.ensures ∙ row_read b.args.p b.args.places b.args.s.now b.requires.0.0 b.args.k b.requires.0.2.row.stored) }
+returns c = let b = c.before in record { store = c.replace_row.ensures; journal = c.put_row.ensures ∙ ap (λ (l : List ℕ). with_record journal_header b.args.i (2 ∷ l) b.args.j.now) (c.row_record.ensures ∙ row_read b.args.p b.args.places b.args.s.now b.requires.0.0 b.args.k b.requires.0.2.row.stored) }
 
 pub swap_spec : {M : Type 1} → statement M
 swap_spec =

@@ -10,27 +10,27 @@ use borrow.Author.Rules.{rules}
 use Rattle.journal.proofs.turn.swap_out.Statement.{statement}
 use Rattle.journal.proofs.turn.swap_out.Tie as tie
 
-row-record-requires : tie.Need-row-record-requires
-row-record-requires c κs = let b = c.before.before.before.before in (held-inside b.args.p b.args.places b.args.s.now b.requires.0, row_within b.args.p b.args.places b.args.s.now b.requires.0 b.args.k b.requires.1.stored)
+row-record-requires : tie.Need-row_record-requires
+row-record-requires c κs = let b = c.before in (held-inside b.args.p b.args.places b.args.s.now b.requires.0, row_within b.args.p b.args.places b.args.s.now b.requires.0 b.args.k b.requires.1.stored)
 
-put-row-requires : tie.Need-put-row-requires
-put-row-requires c κs = let b = c.before.before.before.before.before in (b.requires.0.coded.known, row-bytes b.args.p b.args.places b.args.s.now b.requires.0 b.args.k b.requires.1.stored c.row-record.result.now c.row-record.ensures, b.requires.2)
+put-row-requires : tie.Need-put_row-requires
+put-row-requires c κs = let b = c.before in (b.requires.0.coded.known, row-bytes b.args.p b.args.places b.args.s.now b.requires.0 b.args.k b.requires.1.stored c.row_record.result.now c.row_record.ensures, b.requires.2)
 
-remove-row-requires : tie.Need-remove-row-requires
+remove-row-requires : tie.Need-remove_row-requires
 remove-row-requires c κs = search rules
 
-same_length : tie.Need-same-length
+same_length : tie.Need-shape_of-s
 same_length c = search rules
 
-same-length-2 : tie.Need-same-length-2
+same-length-2 : tie.Need-shape_of-j
 same-length-2 c = search rules
 
 returns : tie.Need-returns
 unfolding event_record
-returns c = let b = c.before.before.before.before.before.before.before.before.before.before.before.before in record { store = c.before.before.remove-row.ensures; journal = c.before.before.before.before.before.before.put-row.ensures ∙ ap (λ (l : List ℕ). with_record journal_header b.args.i (2 ∷ l) b.args.j.now) (c.before.before.before.before.before.before.before.row-record.ensures ∙ row_read b.args.p b.args.places b.args.s.now b.requires.0 b.args.k b.requires.1.stored) }
+returns c = let b = c.before in record { store = c.remove_row.ensures; journal = c.put_row.ensures ∙ ap (λ (l : List ℕ). with_record journal_header b.args.i (2 ∷ l) b.args.j.now) (c.row_record.ensures ∙ row_read b.args.p b.args.places b.args.s.now b.requires.0 b.args.k b.requires.1.stored) }
 
-pub swap-out-spec : {M : Type 1} → statement M
-swap-out-spec =
+pub swap_out_spec : {M : Type 1} → statement M
+swap_out_spec =
     tie.close
     (tie.spec
     row-record-requires

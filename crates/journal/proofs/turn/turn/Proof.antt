@@ -5,32 +5,32 @@ use mathlib.Core.Path.{sym, ◌∙◌}
 use Rattle.journal.proofs.turn.turn.Statement.{statement}
 use Rattle.journal.proofs.turn.turn.Tie as tie
 
-is-row-at-requires : tie.Need-is-row-at-requires
-is-row-at-requires c κs = let h = c.before.before.before.requires.place in (turn-known h, turn-place h)
+is-row-at-requires : tie.Need-is_row_at-requires
+is-row-at-requires c κs = let h = c.before.requires.place in (turn-known h, turn-place h)
 
-turn-row-requires : tie.Need-turn-row-requires
-turn-row-requires c κs = (c.before.before.before.before.before.before.before.requires, (sym c.before.before.before.is-row-at.ensures ∙ c.before.before.if1.true))
+turn-row-requires : tie.Need-turn_row-requires
+turn-row-requires c κs = (c.before.requires, (sym c.is_row_at.ensures ∙ c.if-is_row_at.true))
 
-turn-absent-requires : tie.Need-turn-absent-requires
-turn-absent-requires c κs = (c.before.before.before.before.before.before.before.requires, (sym c.before.before.before.is-row-at.ensures ∙ c.before.before.if1.false))
+turn-absent-requires : tie.Need-turn_absent-requires
+turn-absent-requires c κs = (c.before.requires, (sym c.is_row_at.ensures ∙ c.if-is_row_at.false))
 
-same_length : tie.Need-same-length
+same_length : tie.Need-shape_of-s-then-is_row_at
 same_length c = search rules
 
-same-length-2 : tie.Need-same-length-2
+same-length-2 : tie.Need-shape_of-j-then-is_row_at
 same-length-2 c = search rules
 
-returns : tie.Need-returns
-returns c = c.before.before.before.before.turn-row.ensures
+returns : tie.Need-returns-then-is_row_at
+returns c = c.turn_row.ensures
 
-same-length-3 : tie.Need-same-length-3
+same-length-3 : tie.Need-shape_of-s-else-is_row_at
 same-length-3 c = search rules
 
-same-length-4 : tie.Need-same-length-4
+same-length-4 : tie.Need-shape_of-j-else-is_row_at
 same-length-4 c = search rules
 
-returns-2 : tie.Need-returns-2
-returns-2 c = c.before.before.before.before.turn-absent.ensures
+returns-2 : tie.Need-returns-else-is_row_at
+returns-2 c = c.turn_absent.ensures
 
 pub turn_spec : {M : Type 1} → statement M
 turn_spec =

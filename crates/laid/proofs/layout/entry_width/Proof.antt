@@ -5,15 +5,15 @@ use borrow.Author.Rules.{rules}
 use Rattle.laid.proofs.layout.entry_width.Statement.{statement}
 use Rattle.laid.proofs.layout.entry_width.Tie as tie
 
-add-result : tie.Need-overflow-add-result
+add-result : tie.Need-overflow_add-result
 add-result c = search rules
 
-add-result-2 : tie.Need-overflow-add-result-2
+add-result-2 : tie.Need-overflow_add-result-2
 add-result-2 c = search rules
 
 returns : tie.Need-returns
 unfolding entry_width
 returns c = omega arith
 
-pub entry-width-spec : {M : Type 1} → statement M
-entry-width-spec = tie.close (tie.spec add-result add-result-2 returns)
+pub entry_width_spec : {M : Type 1} → statement M
+entry_width_spec = tie.close (tie.spec add-result add-result-2 returns)

@@ -7,28 +7,28 @@ use borrow.Author.Rules.{rules}
 use Rattle.laid.proofs.layout.place_width.Statement.{statement}
 use Rattle.laid.proofs.layout.place_width.Tie as tie
 
-row-width-requires : tie.Need-row-width-requires
+row-width-requires : tie.Need-row_width-requires
 row-width-requires c κs = search rules
 
-entry-width-requires : tie.Need-entry-width-requires
+entry-width-requires : tie.Need-entry_width-requires
 entry-width-requires c κs = search rules
 
-mul-result : tie.Need-overflow-mul-result
+mul-result : tie.Need-overflow_mul-result
 mul-result c =
     let s = c.before.before.before in
     let a = s.args in
-    omega (arith, times-most a.p.entries 2464 c.before.entry-width.ensures (place-entries-most a.p s.requires))
+    omega (arith, times-most a.p.entries 2464 c.entry_width.ensures (place-entries-most a.p s.requires))
 
-add-result : tie.Need-overflow-add-result
+add-result : tie.Need-overflow_add-result
 add-result c =
     let s = c.before.before.before in
     let a = s.args in
-    omega (arith, times-most a.p.entries 2464 c.before.entry-width.ensures (place-entries-most a.p s.requires), row-most a.p s.requires)
+    omega (arith, times-most a.p.entries 2464 c.entry_width.ensures (place-entries-most a.p s.requires), row-most a.p s.requires)
 
 returns : tie.Need-returns
 unfolding place_width
-returns c = rw (c.before.before.row-width.ensures, c.before.entry-width.ensures)
+returns c = rw (c.row_width.ensures, c.entry_width.ensures)
 
-pub place-width-spec : {M : Type 1} → statement M
-place-width-spec =
+pub place_width_spec : {M : Type 1} → statement M
+place_width_spec =
     tie.close (tie.spec row-width-requires entry-width-requires mul-result add-result returns)

@@ -5,15 +5,15 @@ use Rattle.rules.proofs.Widths.{cells-most}
 use Rattle.laid.proofs.layout.row_width.Statement.{statement}
 use Rattle.laid.proofs.layout.row_width.Tie as tie
 
-mul-result : tie.Need-overflow-mul-result
-mul-result c = omega (arith, cells-most c.before.args.p c.before.requires)
+mul-result : tie.Need-overflow_mul-result
+mul-result c = omega (arith, cells-most c.args.p c.requires)
 
-add-result : tie.Need-overflow-add-result
-add-result c = omega (arith, cells-most c.before.args.p c.before.requires)
+add-result : tie.Need-overflow_add-result
+add-result c = omega (arith, cells-most c.args.p c.requires)
 
 returns : tie.Need-returns
 unfolding row_width
 returns c = omega arith
 
-pub row-width-spec : {M : Type 1} → statement M
-row-width-spec = tie.close (tie.spec mul-result add-result returns)
+pub row_width_spec : {M : Type 1} → statement M
+row_width_spec = tie.close (tie.spec mul-result add-result returns)

@@ -7,24 +7,24 @@ use borrow.Author.Rules.{rules}
 use Rattle.laid.proofs.layout.rows_at.Statement.{statement}
 use Rattle.laid.proofs.layout.rows_at.Tie as tie
 
-schema-width-requires : tie.Need-schema-width-requires
+schema-width-requires : tie.Need-schema_width-requires
 schema-width-requires c κs = search rules
 
-mul-result : tie.Need-overflow-mul-result
+mul-result : tie.Need-overflow_mul-result
 mul-result c =
     let s = c.before.before in
     let a = s.args in
-    omega (arith, times-most a.p.tables 480165 c.before.schema-width.ensures (schemas-most a.p s.requires))
+    omega (arith, times-most a.p.tables 480165 c.schema_width.ensures (schemas-most a.p s.requires))
 
-add-result : tie.Need-overflow-add-result
+add-result : tie.Need-overflow_add-result
 add-result c =
     let s = c.before.before in
     let a = s.args in
-    omega (arith, times-most a.p.tables 480165 c.before.schema-width.ensures (schemas-most a.p s.requires))
+    omega (arith, times-most a.p.tables 480165 c.schema_width.ensures (schemas-most a.p s.requires))
 
 returns : tie.Need-returns
 unfolding rows_at
-returns c = rw c.before.schema-width.ensures
+returns c = rw c.schema_width.ensures
 
-pub rows-at-spec : {M : Type 1} → statement M
-rows-at-spec = tie.close (tie.spec schema-width-requires mul-result add-result returns)
+pub rows_at_spec : {M : Type 1} → statement M
+rows_at_spec = tie.close (tie.spec schema-width-requires mul-result add-result returns)

@@ -7,24 +7,24 @@ use borrow.Author.Rules.{rules}
 use Rattle.laid.proofs.layout.schema_width.Statement.{statement}
 use Rattle.laid.proofs.layout.schema_width.Tie as tie
 
-column-width-requires : tie.Need-column-width-requires
+column-width-requires : tie.Need-column_width-requires
 column-width-requires c κs = search rules
 
-mul-result : tie.Need-overflow-mul-result
+mul-result : tie.Need-overflow_mul-result
 mul-result c =
     let s = c.before.before in
     let a = s.args in
-    omega (arith, times-most a.p.columns 1856 c.before.column-width.ensures (columns-most a.p s.requires))
+    omega (arith, times-most a.p.columns 1856 c.column_width.ensures (columns-most a.p s.requires))
 
-add-result : tie.Need-overflow-add-result
+add-result : tie.Need-overflow_add-result
 add-result c =
     let s = c.before.before in
     let a = s.args in
-    omega (arith, times-most a.p.columns 1856 c.before.column-width.ensures (columns-most a.p s.requires))
+    omega (arith, times-most a.p.columns 1856 c.column_width.ensures (columns-most a.p s.requires))
 
 returns : tie.Need-returns
 unfolding schema_width
-returns c = rw c.before.column-width.ensures
+returns c = rw c.column_width.ensures
 
-pub schema-width-spec : {M : Type 1} → statement M
-schema-width-spec = tie.close (tie.spec column-width-requires mul-result add-result returns)
+pub schema_width_spec : {M : Type 1} → statement M
+schema_width_spec = tie.close (tie.spec column-width-requires mul-result add-result returns)

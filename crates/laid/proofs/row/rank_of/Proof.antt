@@ -9,52 +9,52 @@ use borrow.Author.Rules.{rules}
 use Rattle.laid.proofs.row.rank_of.Statement.{statement}
 use Rattle.laid.proofs.row.rank_of.Tie as tie
 
-rows-at-requires : tie.Need-rows-at-requires
+rows-at-requires : tie.Need-rows_at-from-requires
 rows-at-requires c κs = search rules
 
-mul_at : tie.Need-overflow-mul-at
+mul_at : tie.Need-overflow_mul-at
 mul_at c =
     let b = c.before.before.before in
     let a = b.args in
     omega (arith, key-small a.p a.places a.s.now b.requires.0 (text_bytes a.name) a.column b.requires.1 (meaning a.key))
 
-add_at : tie.Need-overflow-add-at
+add_at : tie.Need-overflow_add-at
 add_at c =
     let b = c.before.before.before in
     let a = b.args in
     omega (arith, key-small a.p a.places a.s.now b.requires.0 (text_bytes a.name) a.column b.requires.1 (meaning a.key))
 
-sub-keyed-before : tie.Need-overflow-sub-keyed-before
+sub-keyed-before : tie.Need-slice_bounds-keyed_before-count
 sub-keyed-before c =
     let b = c.before.before.before in
     let a = b.args in
-    area-start a.p a.places a.s.now (held-inside a.p a.places a.s.now b.requires.0) Rows c.before.rows_at.result c.before.rows_at.ensures
+    area-start a.p a.places a.s.now (held-inside a.p a.places a.s.now b.requires.0) Rows c.rows_at-from.result c.rows_at-from.ensures
 
-part-keyed-before-start : tie.Need-slice-bounds-keyed-before-start
+part-keyed-before-start : tie.Need-slice_bounds-keyed_before-start
 part-keyed-before-start c =
     let b = c.before.before.before in
     let a = b.args in
-    area-start a.p a.places a.s.now (held-inside a.p a.places a.s.now b.requires.0) Rows c.before.rows_at.result c.before.rows_at.ensures
+    area-start a.p a.places a.s.now (held-inside a.p a.places a.s.now b.requires.0) Rows c.rows_at-from.result c.rows_at-from.ensures
 
-part-keyed-before-end : tie.Need-slice-bounds-keyed-before-end
+part-keyed-before-end : tie.Need-slice_bounds-keyed_before-end
 part-keyed-before-end c = search rules
 
-row-count-requires : tie.Need-row-count-requires
+row-count-requires : tie.Need-row_count-requires
 row-count-requires c κs =
     let b = c.before.before.before.before in
     let a = b.args in
     inside-header a.p a.places a.s.now (held-inside a.p a.places a.s.now b.requires.0)
 
-row-width-requires : tie.Need-row-width-requires
+row-width-requires : tie.Need-row_width-requires
 row-width-requires c κs = search rules
 
-keyed-before-requires : tie.Need-keyed-before-requires
+keyed-before-requires : tie.Need-keyed_before-requires
 keyed-before-requires c κs =
     let b = c.before.before.before.before.before.before in
     let a = b.args in
-    let f = c.before.before.before.before.rows_at in
-    let w = c.row-width in
-    let n = c.before.row_count in (
+    let f = c.rows_at-from in
+    let w = c.row_width in
+    let n = c.row_count in (
       (omega (arith, w.ensures, name-within a.p Rows), omega (arith, w.ensures, key-room a.p a.places a.s.now b.requires.0 (text_bytes a.name) a.column b.requires.1 (meaning a.key)), b.requires.2, b.requires.3),
       rows-searched a.p a.places a.s.now b.requires.0 (text_bytes a.name) a.column b.requires.1 (meaning a.key) f.result w.result n.result f.ensures w.ensures n.ensures,
     )
@@ -63,13 +63,13 @@ returns : tie.Need-returns
 returns c =
     let b = c.before.before.before.before.before.before.before in
     let a = b.args in
-    let f = c.before.before.before.before.before.rows_at in
-    let w = c.before.row-width in
-    let n = c.before.before.row_count in
-    rows-ranked a.p a.places a.s.now b.requires.0 (text_bytes a.name) a.column b.requires.1 (meaning a.key) f.result w.result n.result f.ensures w.ensures n.ensures c.keyed-before.result c.keyed-before.ensures
+    let f = c.rows_at-from in
+    let w = c.row_width in
+    let n = c.row_count in
+    rows-ranked a.p a.places a.s.now b.requires.0 (text_bytes a.name) a.column b.requires.1 (meaning a.key) f.result w.result n.result f.ensures w.ensures n.ensures c.keyed_before.result c.keyed_before.ensures
 
-pub rank-of-spec : {M : Type 1} → statement M
-rank-of-spec =
+pub rank_of_spec : {M : Type 1} → statement M
+rank_of_spec =
     tie.close
     (tie.spec
     rows-at-requires

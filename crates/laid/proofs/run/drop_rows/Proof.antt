@@ -9,91 +9,91 @@ use Rattle.laid.proofs.Runs.{area-start, run_inside, run-searched, run-place, ru
 use Rattle.laid.proofs.run.drop_rows.Statement.{statement}
 use Rattle.laid.proofs.run.drop_rows.Tie as tie
 
-row-count-requires : tie.Need-row-count-requires
-row-count-requires c κs = laid-header _ _ _ _ c.before.before.requires.0.laid
+row-count-requires : tie.Need-row_count-count-requires
+row-count-requires c κs = laid-header _ _ _ _ c.before.requires.0.laid
 
-row-width-requires : tie.Need-row-width-requires
+row-width-requires : tie.Need-row_width-width-requires
 row-width-requires c κs = search rules
 
-rows-at-requires : tie.Need-rows-at-requires
+rows-at-requires : tie.Need-rows_at-from-requires
 rows-at-requires c κs = search rules
 
-sub-named-before : tie.Need-overflow-sub-named-before
+sub-named-before : tie.Need-slice_bounds-named_before-count
 sub-named-before c =
     let f = c in
-    let b = f.before.before.before.before.before in
-    let w = f.before.row-width in
-    area-start _ _ _ _ _ b.requires.0 f.rows_at.result w.result b.args.places f.rows_at.ensures w.ensures refl
+    let b = f.before in
+    let w = f.row_width-width in
+    area-start _ _ _ _ _ b.requires.0 f.rows_at-from.result w.result b.args.places f.rows_at-from.ensures w.ensures refl
 
-part-named-before-start : tie.Need-slice-bounds-named-before-start
+part-named-before-start : tie.Need-slice_bounds-named_before-start
 part-named-before-start c =
     let f = c.before in
-    let b = f.before.before.before.before.before in
-    let w = f.before.row-width in
+    let b = f.before.before in
+    let w = f.row-width in
     area-start _ _ _ _ _ b.requires.0 f.rows_at.result w.result b.args.places f.rows_at.ensures w.ensures refl
 
-part-named-before-end : tie.Need-slice-bounds-named-before-end
+part-named-before-end : tie.Need-slice_bounds-named_before-end
 part-named-before-end c = search rules
 
-named-before-requires : tie.Need-named-before-requires
+named-before-requires : tie.Need-named_before-i-requires
 named-before-requires c κs =
     let f = c.before.before in
-    let b = f.before.before.before.before.before in
-    let w = f.before.row-width in
-    let k = f.before.before.row_count in
+    let b = f.before.before in
+    let w = f.row-width in
+    let k = f.row_count in
     ((omega (arith, w.ensures, name-within b.args.p Rows), b.requires.1), run-searched _ _ _ _ _ b.requires.0 f.rows_at.result w.result b.args.places f.rows_at.ensures w.ensures refl k.result k.ensures)
 
-sub-run-from : tie.Need-overflow-sub-run-from
+sub-run-from : tie.Need-slice_bounds-run_from-count
 sub-run-from c =
     let f = c.before.before.before in
-    let b = f.before.before.before.before.before in
-    let w = f.before.row-width in
+    let b = f.before.before in
+    let w = f.row-width in
     area-start _ _ _ _ _ b.requires.0 f.rows_at.result w.result b.args.places f.rows_at.ensures w.ensures refl
 
-part-run-from-start : tie.Need-slice-bounds-run-from-start
+part-run-from-start : tie.Need-slice_bounds-run_from-start
 part-run-from-start c =
     let f = c.before.before.before.before in
-    let b = f.before.before.before.before.before in
-    let w = f.before.row-width in
+    let b = f.before.before.before in
+    let w = f.row-width in
     area-start _ _ _ _ _ b.requires.0 f.rows_at.result w.result b.args.places f.rows_at.ensures w.ensures refl
 
-part-run-from-end : tie.Need-slice-bounds-run-from-end
+part-run-from-end : tie.Need-slice_bounds-run_from-end
 part-run-from-end c = search rules
 
-run-from-requires : tie.Need-run-from-requires
+run-from-requires : tie.Need-run_from-n-requires
 run-from-requires c κs =
     let f = c.before.before.before.before.before in
-    let b = f.before.before.before.before.before in
-    let w = f.before.row-width in
-    let k = f.before.before.row_count in
-    let n = c.before.before.named-before in
+    let b = f.before.before.before in
+    let w = f.row-width in
+    let k = f.row_count in
+    let n = c.named-before in
     (omega (arith, w.ensures, name-within b.args.p Rows), run_inside _ _ _ _ _ b.requires.0 f.rows_at.result w.result b.args.places f.rows_at.ensures w.ensures refl k.result k.ensures, run-place _ _ _ _ _ b.requires.0 f.rows_at.result w.result b.args.places f.rows_at.ensures w.ensures refl k.result k.ensures n.result n.ensures, b.requires.1)
 
-close-counted-requires : tie.Need-close-counted-requires
+close-counted-requires : tie.Need-close_counted-requires
 close-counted-requires c κs =
     let f = c.before.before.before.before.before.before.before in
-    let b = f.before.before.before.before.before in
-    let w = f.before.row-width in
-    let k = f.before.before.row_count in
-    let n = c.before.before.before.before.named-before in
-    let l = c.before.run-from in
+    let b = f.before.before.before in
+    let w = f.row-width in
+    let k = f.row_count in
+    let n = c.named-before in
+    let l = c.run_from-n in
     run-shrinks _ _ _ _ _ b.requires.0 f.rows_at.result w.result b.args.places f.rows_at.ensures w.ensures refl k.result k.ensures n.result n.ensures l.result l.ensures
 
-same_length : tie.Need-same-length
+same_length : tie.Need-shape_of-s
 same_length c = search rules
 
 returns : tie.Need-returns
 returns c =
     let f = c.before.before.before.before.before.before.before.before.before.before in
-    let b = f.before.before.before.before.before in
-    let w = f.before.row-width in
-    let k = f.before.before.row_count in
-    let n = c.before.before.before.before.before.before.before.named-before in
-    let l = c.before.before.before.before.run-from in
-    run-gone _ _ _ _ _ b.requires.0 f.rows_at.result w.result b.args.places f.rows_at.ensures w.ensures refl k.result k.ensures n.result n.ensures l.result l.ensures _ c.before.before.close-counted.ensures
+    let b = f.before.before.before in
+    let w = f.row-width in
+    let k = f.row_count in
+    let n = c.named-before in
+    let l = c.run_from-n in
+    run-gone _ _ _ _ _ b.requires.0 f.rows_at.result w.result b.args.places f.rows_at.ensures w.ensures refl k.result k.ensures n.result n.ensures l.result l.ensures _ c.close_counted.ensures
 
-pub drop-rows-spec : {M : Type 1} → statement M
-drop-rows-spec =
+pub drop_rows_spec : {M : Type 1} → statement M
+drop_rows_spec =
     tie.close
     (tie.spec
     row-count-requires

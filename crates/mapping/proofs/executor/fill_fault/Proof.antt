@@ -17,8 +17,8 @@ use Rattle.mapping.proofs.Mapping.{too_many_lem, other-count, no_default, all-fi
 use Rattle.mapping.proofs.executor.fill_fault.Statement.{statement}
 use Rattle.mapping.proofs.executor.fill_fault.Tie as tie
 
-column-count-requires : tie.Need-column-count-requires
-column-count-requires c κs = record-least _ _ c.before.before.requires.0
+column-count-requires : tie.Need-column_count-columns-requires
+column-count-requires c κs = record-least _ _ c.requires.0
 
 -- the table's columns, counted
 abbrev cols : tie.Start → List Column
@@ -27,54 +27,54 @@ cols b = columns_of b.args.p b.args.table.now
 abbrev values : tie.Start → List Value
 values b = values_from b.args.rec.now b.args.count b.args.at
 
-counted : (d : tie.After-column-count) → d.column-count.result ≡ length (cols d.before.before.before)
-counted d = d.column-count.ensures ∙ count-byte d.before.before.before.args.p d.before.before.before.args.table.now
+counted : (d : tie.After-column_count-columns) → d.column_count-columns.result ≡ length (cols d.before.before.before)
+counted d = d.column_count-columns.ensures ∙ count-byte d.args.p d.args.table.now
 
-enough : (u : tie.Else1) → length (values u.before.before.before.before) ≤ length (cols u.before.before.before.before)
-enough u = omega (arith, u.if1.false, counted u.before, u.before.before.before.before.requires.3)
+enough : (u : tie.Else-columns-count) → length (values u.before.before.before.before) ≤ length (cols u.before.before.before.before)
+enough u = omega (arith, u.if-columns-count.false, counted u.before, u.requires.3)
 
 -- 22 was asked
-abbrev begun : tie.Joined2 → tie.Start
+abbrev begun : tie.Joined-m → tie.Start
 begun j = j.before.before.before.before.before
 
-alike : (j : tie.Joined2) → let b = begun j in other_count (map_of b.args.rec.now b.args.m) (length (values b)) ≡ false
+alike : (j : tie.Joined-m) → let b = begun j in other_count (map_of b.args.rec.now b.args.m) (length (values b)) ≡ false
 alike j =
     let b = begun j in
     let n = length (values b) in
-    counted-alike b.args.rec.now b.args.m b.pre.2 n
-    (λ t. ⊎_elim {C = b.args.m.count ≡ n} (λ w. w.2.left ∙ sym b.pre.3) (λ w. absurd (true≢false (sym t ∙ w.left))) j.if2.branch)
+    counted-alike b.args.rec.now b.args.m b.requires.2 n
+    (λ t. ⊎_elim {C = b.args.m.count ≡ n} (λ w. w.2.left ∙ sym b.requires.3) (λ w. absurd (true≢false (sym t ∙ w.left))) j.if-m.branch-raw)
 
-returns : tie.Need-returns
+returns : tie.Need-returns-then-columns-count
 returns c =
     let d = c.before in
     let b = d.before.before.before in
-    too_many_lem _ _ (values b) (omega (arith, c.if1.true, counted d, b.requires.3))
+    too_many_lem _ _ (values b) (omega (arith, c.if-columns-count.true, counted d, b.requires.3))
 
-returns-2 : tie.Need-returns-2
+returns-2 : tie.Need-returns-then-m-count
 returns-2 c =
     let u = c.before.before in
     let b = u.before.before.before.before.before in
     let n = length (values b) in
     other-count _ _ (values b) (enough u.before)
-    (counted-other b.args.rec.now b.args.m b.requires.2 n u.if2.true (λ e. c.if3.true (e ∙ b.requires.3)))
+    (counted-other b.args.rec.now b.args.m b.requires.2 n u.if-m.true (λ e. c.if-m-count.true (e ∙ b.requires.3)))
 
-fill-requires : tie.Need-fill-requires
+fill-requires : tie.Need-fill-row-requires
 fill-requires c κs = search rules
 
-returns-3 : tie.Need-returns-3
+returns-3 : tie.Need-returns-then-row-columns
 returns-3 c =
     let f = c.before.before in
     let u = f.before.before in
     let b = u.before.before.before.before in
-    no_default _ _ (values b) (enough u) (alike f.before) f.fill.result f.fill.ensures.0 (λ e. c.if4.true (e ∙ sym (counted u.before)))
+    no_default _ _ (values b) (enough u) (alike f.before) f.fill-row.result f.fill-row.ensures.0 (λ e. c.if-row-columns.true (e ∙ sym (counted u.before)))
 
-returns-4 : tie.Need-returns-4
+returns-4 : tie.Need-returns
 returns-4 c =
     let f = c.before.before in
     let u = f.before.before in
     let b = u.before.before.before.before in
-    all-filled _ _ (values b) (enough u) (alike f.before) f.fill.result f.fill.ensures.0 (c.if4.false ∙ counted u.before)
+    all-filled _ _ (values b) (enough u) (alike f.before) f.fill-row.result f.fill-row.ensures.0 (c.if-row-columns.false ∙ counted u.before)
 
-pub fill-fault-spec : {M : Type 1} → statement M
-fill-fault-spec =
+pub fill_fault_spec : {M : Type 1} → statement M
+fill_fault_spec =
     tie.close (tie.spec column-count-requires returns returns-2 fill-requires returns-3 returns-4)

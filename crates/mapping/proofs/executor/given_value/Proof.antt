@@ -16,23 +16,23 @@ use Rattle.mapping.proofs.executor.given_value.Tie as tie
 abbrev under : tie.Start → Option (List ℕ) → Option Value
 under b o = given o (values_from b.args.rec.now b.args.count b.args.at) b.args.j
 
-mapped-value-requires : tie.Need-mapped-value-requires
+mapped-value-requires : tie.Need-mapped_value-requires
 mapped-value-requires c κs = search rules
 
-returns : tie.Need-returns
+returns : tie.Need-returns-then-m
 returns c =
     let b = c.before.before.before in
-    let r = c.mapped-value in
-    (subst (λ (o : Option (List ℕ)). given_of r.result ≡ under b o) (sym (map_is b.args.rec.now b.args.m c.before.if1.true)) r.ensures.0, r.ensures.1)
+    let r = c.mapped_value in
+    (subst (λ (o : Option (List ℕ)). given_of r.result ≡ under b o) (sym (map_is b.args.rec.now b.args.m c.if-m.true)) r.ensures.0, r.ensures.1)
 
-nth-value-requires : tie.Need-nth-value-requires
+nth-value-requires : tie.Need-nth_value-requires
 nth-value-requires c κs = search rules
 
-returns-2 : tie.Need-returns-2
+returns-2 : tie.Need-returns
 returns-2 c =
     let b = c.before.before.before in
-    let r = c.nth-value in
-    (subst (λ (o : Option (List ℕ)). given_of r.result ≡ under b o) (sym (no-map b.args.rec.now b.args.m c.before.if1.false)) r.ensures.0, r.ensures.1)
+    let r = c.nth_value in
+    (subst (λ (o : Option (List ℕ)). given_of r.result ≡ under b o) (sym (no-map b.args.rec.now b.args.m c.if-m.false)) r.ensures.0, r.ensures.1)
 
-pub given-value-spec : {M : Type 1} → statement M
-given-value-spec = tie.close (tie.spec mapped-value-requires returns nth-value-requires returns-2)
+pub given_value_spec : {M : Type 1} → statement M
+given_value_spec = tie.close (tie.spec mapped-value-requires returns nth-value-requires returns-2)

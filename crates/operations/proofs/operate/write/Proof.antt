@@ -4,7 +4,7 @@ use native.Mathlib.Omega.{arith}
 use Rattle.journal.proofs.Booking.{laid-books, journaled}
 use Rattle.journal.proofs.Noting.{book-long}
 use Rattle.operations.proofs.Batching.{open-acted, keep-acted, back-acted}
-use Rattle.operations.proofs.Asked.{is-create, is-drop, is-insert, is-update, is-delete, is_open, is-keep, is-back, got-as, acted-as, writes-known}
+use Rattle.operations.proofs.Asked.{is-create, is-drop, is-insert, is-update, is-delete, is_open_lem, is-keep, is-back, got-as, acted-as, writes-known}
 use Rattle.operations.proofs.operate.write.Statement.{statement}
 use Rattle.operations.proofs.operate.write.Tie as tie
 
@@ -76,7 +76,7 @@ returns-6 : tie.Need-returns-6
 returns-6 c =
     let b = c.before.before.before.before.before.before.before.before in
     let a = b.args in
-    acted-as (is_open a.rec.now a.p a.k 2 c.before.before.before.before.match.keys6) (open-acted b.requires.0 2 c.before.before.open.ensures)
+    acted-as (is_open_lem a.rec.now a.p a.k 2 c.before.before.before.before.match.keys6) (open-acted b.requires.0 2 c.before.before.open.ensures)
 
 returns-7 : tie.Need-returns-7
 returns-7 c =

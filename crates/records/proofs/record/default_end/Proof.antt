@@ -5,14 +5,14 @@ use borrow.Author.Rules.{rules}
 use Rattle.records.proofs.record.default_end.Statement.{statement}
 use Rattle.records.proofs.record.default_end.Tie as tie
 
-value-end-requires : tie.Need-value-end-requires
+value-end-requires : tie.Need-value_end-requires
 value-end-requires c κs = search rules
 
-returns : tie.Need-returns
-returns c = flagged-yes _ _ _ _ (eq-eqb _ _ c.before.if1.true) c.value-end.ensures
+returns : tie.Need-returns-then-flags-eq1
+returns c = flagged-yes _ _ _ _ (eq-eqb _ _ c.if-flags-eq1.true) c.value_end.ensures
 
-returns-2 : tie.Need-returns-2
-returns-2 c = flagged-no _ _ _ (ne_eqb _ _ c.if1.false)
+returns-2 : tie.Need-returns
+returns-2 c = flagged-no _ _ _ (ne_eqb _ _ c.if-flags-eq1.false)
 
-pub default-end-spec : {M : Type 1} → statement M
-default-end-spec = tie.close (tie.spec value-end-requires returns returns-2)
+pub default_end_spec : {M : Type 1} → statement M
+default_end_spec = tie.close (tie.spec value-end-requires returns returns-2)

@@ -5,75 +5,75 @@ use borrow.Author.Rules.{rules}
 use Rattle.records.proofs.record.insert_end.Statement.{statement}
 use Rattle.records.proofs.record.insert_end.Tie as tie
 
-name-end-requires : tie.Need-name-end-requires
+name-end-requires : tie.Need-name_end-requires
 name-end-requires c κs = search rules
 
-enum-known-e : tie.Need-enum-known-e
+enum-known-e : tie.Need-enum_known-e
 enum-known-e c = search rules
 
-enum-known-x : tie.Need-enum-known-x
+enum-known-x : tie.Need-enum_known-x
 enum-known-x c = search rules
 
-returns : tie.Need-returns
+returns : tie.Need-returns-in-Breaks
 unfolding insert_at
-returns c = let w1 = c.before.before.before in stop _ _ _ _ w1.name-end.ensures c.before.x.given.1
+returns c = let w1 = c.before in stop _ _ _ _ w1.name_end.ensures c.in-Breaks.is
 
-map-end-requires : tie.Need-map-end-requires
+map-end-requires : tie.Need-map_end-requires
 map-end-requires c κs = search rules
 
-enum-known-e-2 : tie.Need-enum-known-e-2
+enum-known-e-2 : tie.Need-enum_known-e-in-Ends-map_end
 enum-known-e-2 c = search rules
 
-enum-known-x-2 : tie.Need-enum-known-x-2
+enum-known-x-2 : tie.Need-enum_known-x-in-Breaks-map_end
 enum-known-x-2 c = search rules
 
-returns-2 : tie.Need-returns-2
+returns-2 : tie.Need-returns-in-Breaks-map_end
 unfolding insert_at
 returns-2 c =
-    let w2 = c.before.before.before in
-    let w1 = w2.before.before.before.before in
-    step _ _ _ _ _ w1.name-end.ensures w2.before.before.e.given.1 (λ v h.
-    stop _ _ _ _ w2.map-end.ensures c.before.x2.given.1)
+    let w2 = c.before in
+    let w1 = w2.before.before in
+    step _ _ _ _ _ w1.name_end.ensures w2.in-Ends.is (λ v h.
+    stop _ _ _ _ w2.map_end.ensures c.in-Breaks-map_end.is)
 
-byte-end-requires : tie.Need-byte-end-requires
+byte-end-requires : tie.Need-byte_end-requires
 byte-end-requires c κs = search rules
 
-enum-known-e-3 : tie.Need-enum-known-e-3
+enum-known-e-3 : tie.Need-enum_known-e-in-Ends-byte_end
 enum-known-e-3 c = search rules
 
-enum-known-x-3 : tie.Need-enum-known-x-3
+enum-known-x-3 : tie.Need-enum_known-x-in-Breaks-byte_end
 enum-known-x-3 c = search rules
 
-returns-3 : tie.Need-returns-3
+returns-3 : tie.Need-returns-in-Breaks-byte_end
 unfolding insert_at
 returns-3 c =
-    let w3 = c.before.before.before in
-    let w2 = w3.before.before.before.before in
-    let w1 = w2.before.before.before.before in
-    step _ _ _ _ _ w1.name-end.ensures w2.before.before.e.given.1 (λ v h.
-    step _ _ _ _ _ w2.map-end.ensures w3.before.before.e2.given.1 (λ v h.
-    stop _ _ _ _ w3.byte-end.ensures c.before.x3.given.1))
+    let w3 = c.before in
+    let w2 = w3.before.before in
+    let w1 = w2.before.before in
+    step _ _ _ _ _ w1.name_end.ensures w2.in-Ends.is (λ v h.
+    step _ _ _ _ _ w2.map_end.ensures w3.in-Ends-map_end.is (λ v h.
+    stop _ _ _ _ w3.byte_end.ensures c.in-Breaks-byte_end.is))
 
-byte-of-requires : tie.Need-byte-of-requires
+byte-of-requires : tie.Need-byte_of-requires
 byte-of-requires c κs = search rules
 
-some-rows-requires : tie.Need-some-rows-requires
+some-rows-requires : tie.Need-some_rows-requires
 some-rows-requires c κs = search rules
 
-returns-4 : tie.Need-returns-4
+returns-4 : tie.Need-returns
 unfolding insert_at
 returns-4 c =
     let w4 = c.before in
-    let w3 = w4.before.before.before.before in
-    let w2 = w3.before.before.before.before in
-    let w1 = w2.before.before.before.before in
-    step _ _ _ _ _ w1.name-end.ensures w2.before.before.e.given.1 (λ v h.
-    step _ _ _ _ _ w2.map-end.ensures w3.before.before.e2.given.1 (λ v h.
-    step-known _ _ _ _ _ _ (byte-told _ _ _ w4.byte_of.ensures) w3.byte-end.ensures w4.before.before.e3.given.1
-    (last _ _ _ c.some-rows.ensures)))
+    let w3 = w4.before.before in
+    let w2 = w3.before.before in
+    let w1 = w2.before.before in
+    step _ _ _ _ _ w1.name_end.ensures w2.in-Ends.is (λ v h.
+    step _ _ _ _ _ w2.map_end.ensures w3.in-Ends-map_end.is (λ v h.
+    step-known _ _ _ _ _ _ (byte-told _ _ _ w4.byte_of.ensures) w3.byte_end.ensures w4.in-Ends-byte_end.is
+    (last _ _ _ c.some_rows.ensures)))
 
-pub insert-end-spec : {M : Type 1} → statement M
-insert-end-spec =
+pub insert_end_spec : {M : Type 1} → statement M
+insert_end_spec =
     tie.close
     (tie.spec
     name-end-requires

@@ -5,50 +5,50 @@ use borrow.Author.Rules.{rules}
 use Rattle.records.proofs.record.lookup_end.Statement.{statement}
 use Rattle.records.proofs.record.lookup_end.Tie as tie
 
-name-end-requires : tie.Need-name-end-requires
+name-end-requires : tie.Need-name_end-requires
 name-end-requires c κs = search rules
 
-enum-known-e : tie.Need-enum-known-e
+enum-known-e : tie.Need-enum_known-e
 enum-known-e c = search rules
 
-enum-known-x : tie.Need-enum-known-x
+enum-known-x : tie.Need-enum_known-x
 enum-known-x c = search rules
 
-returns : tie.Need-returns
+returns : tie.Need-returns-in-Breaks
 unfolding lookup_at
-returns c = let w1 = c.before.before.before in stop _ _ _ _ w1.name-end.ensures c.before.x.given.1
+returns c = let w1 = c.before in stop _ _ _ _ w1.name_end.ensures c.in-Breaks.is
 
-byte-end-requires : tie.Need-byte-end-requires
+byte-end-requires : tie.Need-byte_end-requires
 byte-end-requires c κs = search rules
 
-enum-known-e-2 : tie.Need-enum-known-e-2
+enum-known-e-2 : tie.Need-enum_known-e-in-Ends-byte_end
 enum-known-e-2 c = search rules
 
-enum-known-x-2 : tie.Need-enum-known-x-2
+enum-known-x-2 : tie.Need-enum_known-x-in-Breaks-byte_end
 enum-known-x-2 c = search rules
 
-returns-2 : tie.Need-returns-2
+returns-2 : tie.Need-returns-in-Breaks-byte_end
 unfolding lookup_at
 returns-2 c =
-    let w2 = c.before.before.before in
-    let w1 = w2.before.before.before.before in
-    step _ _ _ _ _ w1.name-end.ensures w2.before.before.e.given.1 (λ v h.
-    stop _ _ _ _ w2.byte-end.ensures c.before.x2.given.1)
+    let w2 = c.before in
+    let w1 = w2.before.before in
+    step _ _ _ _ _ w1.name_end.ensures w2.in-Ends.is (λ v h.
+    stop _ _ _ _ w2.byte_end.ensures c.in-Breaks-byte_end.is)
 
-values-end-requires : tie.Need-values-end-requires
+values-end-requires : tie.Need-values_end-requires
 values-end-requires c κs = search rules
 
-returns-3 : tie.Need-returns-3
+returns-3 : tie.Need-returns
 unfolding lookup_at
 returns-3 c =
-    let w2 = c.before.before.before.before in
-    let w1 = w2.before.before.before.before in
-    step _ _ _ _ _ w1.name-end.ensures w2.before.before.e.given.1 (λ v h.
-    step _ _ _ _ _ w2.byte-end.ensures c.before.before.e2.given.1 (λ v h.
-    last _ _ _ c.values-end.ensures))
+    let w2 = c.before.before in
+    let w1 = w2.before.before in
+    step _ _ _ _ _ w1.name_end.ensures w2.in-Ends.is (λ v h.
+    step _ _ _ _ _ w2.byte_end.ensures c.in-Ends-byte_end.is (λ v h.
+    last _ _ _ c.values_end.ensures))
 
-pub lookup-end-spec : {M : Type 1} → statement M
-lookup-end-spec =
+pub lookup_end_spec : {M : Type 1} → statement M
+lookup_end_spec =
     tie.close
     (tie.spec
     name-end-requires

@@ -5,34 +5,34 @@ use borrow.Author.Rules.{rules}
 use Rattle.records.proofs.record.map_columns_end.Statement.{statement}
 use Rattle.records.proofs.record.map_columns_end.Tie as tie
 
-byte-end-requires : tie.Need-byte-end-requires
+byte-end-requires : tie.Need-byte_end-requires
 byte-end-requires c κs = search rules
 
-enum-known-e : tie.Need-enum-known-e
+enum-known-e : tie.Need-enum_known-e
 enum-known-e c = search rules
 
-enum-known-x : tie.Need-enum-known-x
+enum-known-x : tie.Need-enum_known-x
 enum-known-x c = search rules
 
-returns : tie.Need-returns
+returns : tie.Need-returns-in-Breaks
 unfolding columns_at
-returns c = let w1 = c.before.before.before in stop _ _ _ _ w1.byte-end.ensures c.before.x.given.1
+returns c = let w1 = c.before in stop _ _ _ _ w1.byte_end.ensures c.in-Breaks.is
 
-byte-of-requires : tie.Need-byte-of-requires
+byte-of-requires : tie.Need-byte_of-requires
 byte-of-requires c κs = search rules
 
-some-bytes-requires : tie.Need-some-bytes-requires
+some-bytes-requires : tie.Need-some_bytes-requires
 some-bytes-requires c κs = search rules
 
-returns-2 : tie.Need-returns-2
+returns-2 : tie.Need-returns
 unfolding columns_at
 returns-2 c =
     let w2 = c.before in
-    let w1 = w2.before.before.before.before in
-    step-known _ _ _ _ _ _ (byte-told _ _ _ w2.byte_of.ensures) w1.byte-end.ensures w2.before.before.e.given.1 c.some_bytes.ensures
+    let w1 = w2.before.before in
+    step-known _ _ _ _ _ _ (byte-told _ _ _ w2.byte_of.ensures) w1.byte_end.ensures w2.in-Ends.is c.some_bytes.ensures
 
-pub map-columns-end-spec : {M : Type 1} → statement M
-map-columns-end-spec =
+pub map_columns_end_spec : {M : Type 1} → statement M
+map_columns_end_spec =
     tie.close
     (tie.spec
     byte-end-requires

@@ -5,14 +5,14 @@ use borrow.Author.Rules.{rules}
 use Rattle.records.proofs.record.reference_end.Statement.{statement}
 use Rattle.records.proofs.record.reference_end.Tie as tie
 
-name-end-requires : tie.Need-name-end-requires
+name-end-requires : tie.Need-name_end-requires
 name-end-requires c κs = search rules
 
-returns : tie.Need-returns
-returns c = flagged-yes _ _ _ _ (eq-eqb _ _ c.before.if1.true) c.name-end.ensures
+returns : tie.Need-returns-then-flags-eq1
+returns c = flagged-yes _ _ _ _ (eq-eqb _ _ c.if-flags-eq1.true) c.name_end.ensures
 
-returns-2 : tie.Need-returns-2
-returns-2 c = flagged-no _ _ _ (ne_eqb _ _ c.if1.false)
+returns-2 : tie.Need-returns
+returns-2 c = flagged-no _ _ _ (ne_eqb _ _ c.if-flags-eq1.false)
 
-pub reference-end-spec : {M : Type 1} → statement M
-reference-end-spec = tie.close (tie.spec name-end-requires returns returns-2)
+pub reference_end_spec : {M : Type 1} → statement M
+reference_end_spec = tie.close (tie.spec name-end-requires returns returns-2)

@@ -5,12 +5,12 @@ use borrow.Author.Rules.{rules}
 use Rattle.records.proofs.record.scan_end.Statement.{statement}
 use Rattle.records.proofs.record.scan_end.Tie as tie
 
-name-end-requires : tie.Need-name-end-requires
+name-end-requires : tie.Need-name_end-requires
 name-end-requires c κs = search rules
 
 returns : tie.Need-returns
 unfolding scan_at
-returns c = last _ _ _ c.name-end.ensures
+returns c = last _ _ _ c.name_end.ensures
 
-pub scan-end-spec : {M : Type 1} → statement M
-scan-end-spec = tie.close (tie.spec name-end-requires returns)
+pub scan_end_spec : {M : Type 1} → statement M
+scan_end_spec = tie.close (tie.spec name-end-requires returns)

@@ -8,46 +8,46 @@ use Rattle.records.proofs.Walking.{times_none, times-next, times-stop}
 use Rattle.records.proofs.record.some_columns.Statement.{statement}
 use Rattle.records.proofs.record.some_columns.Tie as tie
 
-abbrev invariant-loop : tie.invariant-loop
+abbrev invariant-loop : tie.invariant-loop-left
 invariant-loop s n at left₀ p₀ left p = walked_as (times (column_at s) left p) ≡ walked_as (times (column_at s) n at)
 
-abbrev decreases-loop : tie.decreases-loop
+abbrev decreases-loop : tie.decreases-loop-left
 decreases-loop s n at left₀ p₀ left p = left
 
-loop-holds : tie.Need-loop-init invariant-loop decreases-loop
+loop-holds : tie.Need-loop-left-init invariant-loop decreases-loop
 loop-holds c = refl
 
-column-end-requires : tie.Need-column-end-requires invariant-loop decreases-loop
+column-end-requires : tie.Need-column_end-requires invariant-loop decreases-loop
 column-end-requires c κs = search rules
 
-enum-known-q : tie.Need-enum-known-q invariant-loop decreases-loop
+enum-known-q : tie.Need-enum_known-q invariant-loop decreases-loop
 enum-known-q c = search rules
 
-enum-known-x : tie.Need-enum-known-x invariant-loop decreases-loop
+enum-known-x : tie.Need-enum_known-x invariant-loop decreases-loop
 enum-known-x c = search rules
 
-returns : tie.Need-returns invariant-loop decreases-loop
+returns : tie.Need-returns-in-Breaks invariant-loop decreases-loop
 returns c =
-    let d = c.before.before.before in
-    let l = d.before.before.loop in
-    times-stop _ l.left _ _ _ (search rules) d.column-end.ensures c.before.x.given.1 ∙ l.invariant
+    let d = c.before in
+    let l = d.loop-left in
+    times-stop _ l.left _ _ _ (search rules) d.column_end.ensures c.in-Breaks.is ∙ l.invariant
 
-sub-left : tie.Need-overflow-sub-left invariant-loop decreases-loop
+sub-left : tie.Need-overflow_sub-left invariant-loop decreases-loop
 sub-left c = search rules
 
-loop-less : tie.Need-loop-smaller invariant-loop decreases-loop
+loop-less : tie.Need-loop-left-smaller invariant-loop decreases-loop
 loop-less c = search rules
 
-loop-again : tie.Need-loop-preserved invariant-loop decreases-loop
+loop-again : tie.Need-loop-left-preserved invariant-loop decreases-loop
 loop-again c =
-    let d = c.before.before.before in
-    times-next _ _ _ _ _ (search rules) d.column-end.ensures c.before.q.given.1 ∙ d.before.before.loop.invariant
+    let d = c.before in
+    times-next _ _ _ _ _ (search rules) d.column_end.ensures c.in-Ends.is ∙ d.loop-left.invariant
 
-returns-2 : tie.Need-returns-2 invariant-loop decreases-loop
-returns-2 c = times_none _ _ _ (search rules) ∙ c.before.loop.invariant
+returns-2 : tie.Need-returns invariant-loop decreases-loop
+returns-2 c = times_none _ _ _ (search rules) ∙ c.loop-left.invariant
 
-pub some-columns-spec : {M : Type 1} → statement M
-some-columns-spec =
+pub some_columns_spec : {M : Type 1} → statement M
+some_columns_spec =
     tie.close
     (tie.spec
     invariant-loop

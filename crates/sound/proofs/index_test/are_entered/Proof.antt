@@ -11,57 +11,57 @@ use Rattle.sound.proofs.Walks.{Asked, Turned, fewer-left, next_fits}
 use Rattle.sound.proofs.index_test.are_entered.Statement.{statement}
 use Rattle.sound.proofs.index_test.are_entered.Tie as tie
 
-abbrev invariant-loop : tie.invariant-loop
+abbrev invariant-loop : tie.invariant-loop-i
 invariant-loop s p places count i₀ i = Asked (entered_row (parse p places s).tables (entries_in p places s)) (parse p places s).rows i
 
-abbrev decreases-loop : tie.decreases-loop
+abbrev decreases-loop : tie.decreases-loop-i
 decreases-loop s p places count i₀ i = count - i
 
-row-count-requires : tie.Need-row-count-requires invariant-loop decreases-loop
+row-count-requires : tie.Need-row_count-count-requires invariant-loop decreases-loop
 row-count-requires c κs =
-    let a = c.before.args in
-    inside-header a.p a.places a.s.now c.before.requires.tabled.schemed.catalog.inside
+    let a = c.args in
+    inside-header a.p a.places a.s.now c.requires.tabled.schemed.catalog.inside
 
-loop-holds : tie.Need-loop-init invariant-loop decreases-loop
+loop-holds : tie.Need-loop-i-init invariant-loop decreases-loop
 loop-holds c = refl
 
-row-record-requires : tie.Need-row-record-requires invariant-loop decreases-loop
+row-record-requires : tie.Need-row_record-requires invariant-loop decreases-loop
 row-record-requires c κs =
-    let a = c.before.before.before.before.args in
-    (c.before.before.before.before.requires.tabled.schemed.catalog.inside, below a.p a.places a.s.now Rows _ c.before.before.row_count.ensures _ c.loop-test.true)
+    let a = c.args in
+    (c.requires.tabled.schemed.catalog.inside, below a.p a.places a.s.now Rows _ c.row_count-count.ensures _ c.loop-i-test.true)
 
-is-row-entered-requires : tie.Need-is-row-entered-requires invariant-loop decreases-loop
+is-row-entered-requires : tie.Need-is_row_entered-requires invariant-loop decreases-loop
 is-row-entered-requires c κs =
-    let a = c.before.before.before.before.before.args in
-    let q = c.before.before.before.before.before.requires in
-    (q, wide_of a.p a.places a.s.now Rows _ c.before.before.before.row_count.ensures q.tabled.schemed.catalog.inside _ _ c.before.loop-test.true c.row-record.ensures)
+    let a = c.args in
+    let q = c.requires in
+    (q, wide_of a.p a.places a.s.now Rows _ c.row_count-count.ensures q.tabled.schemed.catalog.inside _ _ c.loop-i-test.true c.row_record.ensures)
 
-turn : (c : tie.After-is-row-entered invariant-loop decreases-loop) →
-    let a = c.before.before.before.before.before.before.args in
-    Turned (entered_row (parse a.p a.places a.s.now).tables (entries_in a.p a.places a.s.now)) (parse a.p a.places a.s.now).rows c.before.before.before.loop.i c.is-row-entered.result
+turn : (c : tie.After-is_row_entered invariant-loop decreases-loop) →
+    let a = c.args in
+    Turned (entered_row (parse a.p a.places a.s.now).tables (entries_in a.p a.places a.s.now)) (parse a.p a.places a.s.now).rows c.loop-i.i c.is_row_entered.result
 turn c =
-    let a = c.before.before.before.before.before.before.args in
-    walk_turn a.p a.places a.s.now Rows _ c.before.before.before.before.row_count.ensures (read_row a.p (parse a.p a.places a.s.now).tables) (parse a.p a.places a.s.now).rows (rows-read a.p a.places a.s.now) (entered_row (parse a.p a.places a.s.now).tables (entries_in a.p a.places a.s.now)) _ _ _ c.before.before.before.loop.invariant c.before.before.loop-test.true c.before.row-record.ensures c.is-row-entered.ensures
+    let a = c.args in
+    walk_turn a.p a.places a.s.now Rows _ c.row_count-count.ensures (read_row a.p (parse a.p a.places a.s.now).tables) (parse a.p a.places a.s.now).rows (rows-read a.p a.places a.s.now) (entered_row (parse a.p a.places a.s.now).tables (entries_in a.p a.places a.s.now)) _ _ _ c.loop-i.invariant c.loop-i-test.true c.row_record.ensures c.is_row_entered.ensures
 
-returns : tie.Need-returns invariant-loop decreases-loop
-returns c = (turn c.before).0 c.if1.true
+returns : tie.Need-returns-then-not-is_row_entered invariant-loop decreases-loop
+returns c = (turn c.before).0 c.if-not-is_row_entered.true
 
-add-i : tie.Need-overflow-add-i invariant-loop decreases-loop
-add-i c = next_fits _ _ c.before.before.before.loop-test.true c.before.before.before.before.before.row_count.type-inv
+add-i : tie.Need-overflow_add-i invariant-loop decreases-loop
+add-i c = next_fits _ _ c.loop-i-test.true c.row_count-count.type_inv
 
-loop-less : tie.Need-loop-smaller invariant-loop decreases-loop
-loop-less c = fewer-left _ _ c.before.before.before.loop-test.true
+loop-less : tie.Need-loop-i-smaller invariant-loop decreases-loop
+loop-less c = fewer-left _ _ c.loop-i-test.true
 
-loop-again : tie.Need-loop-preserved invariant-loop decreases-loop
-loop-again c = (turn c.before).1 c.if1.false
+loop-again : tie.Need-loop-i-preserved invariant-loop decreases-loop
+loop-again c = (turn c.before).1 c.if-not-is_row_entered.false
 
-returns-2 : tie.Need-returns-2 invariant-loop decreases-loop
+returns-2 : tie.Need-returns invariant-loop decreases-loop
 returns-2 c =
-    let a = c.before.before.before.before.args in
-    walk_end a.p a.places a.s.now Rows _ c.before.before.row_count.ensures (read_row a.p (parse a.p a.places a.s.now).tables) (parse a.p a.places a.s.now).rows (rows-read a.p a.places a.s.now) (entered_row (parse a.p a.places a.s.now).tables (entries_in a.p a.places a.s.now)) _ c.before.loop.invariant c.loop-test.false
+    let a = c.args in
+    walk_end a.p a.places a.s.now Rows _ c.row_count-count.ensures (read_row a.p (parse a.p a.places a.s.now).tables) (parse a.p a.places a.s.now).rows (rows-read a.p a.places a.s.now) (entered_row (parse a.p a.places a.s.now).tables (entries_in a.p a.places a.s.now)) _ c.loop-i.invariant c.loop-i-test.false
 
-pub are-entered-spec : {M : Type 1} → statement M
-are-entered-spec =
+pub are_entered_spec : {M : Type 1} → statement M
+are_entered_spec =
     tie.close
     (tie.spec
     invariant-loop

@@ -10,61 +10,61 @@ use borrow.Author.Rules.{rules}
 use Rattle.sound.proofs.index_test.is_alike.Statement.{statement}
 use Rattle.sound.proofs.index_test.is_alike.Tie as tie
 
-long : (c : tie.After-shared-slice-known) → length c.before.args.rec.now ≡ 78
+long : (c : tie.After-shared_slice_known-1) → length c.args.rec.now ≡ 78
 unfolding entry_width
 long c =
-    let q = c.before.requires in
+    let q = c.requires in
     omega (arith, q.0.cells, q.1)
 
-compare-named-requires : tie.Need-compare-named-requires
-compare-named-requires c κs = (omega (arith, long c), c.before.requires.2)
+compare-named-requires : tie.Need-compare_named-requires
+compare-named-requires c κs = (omega (arith, long c), c.requires.2)
 
-enum_told : tie.Need-enum-told
+enum_told : tie.Need-enum_told-1
 enum_told c = search rules
 
-shared-slice-read-if1 : tie.Need-shared-slice-read-if1
-shared-slice-read-if1 c = omega (arith, long c.before.before.before.before)
+shared-slice-read-if1 : tie.Need-bounds-rec-25
+shared-slice-read-if1 c = omega (arith, long c.before.before.before)
 
-returns : tie.Need-returns
+returns : tie.Need-returns-then-rec-column
 returns c =
-    let a = c.before.before.before.before.before.before.args in
-    group-column a.p a.rec.now (text_bytes a.name) a.column (meaning a.v) _ c.before.before.before.before.compare-named.ensures (same-is c.before.before.before.before.compare-named.result _ refl c.before.before.enum_told.given.1) c.if1.true
+    let a = c.args in
+    group-column a.p a.rec.now (text_bytes a.name) a.column (meaning a.v) _ c.compare_named.ensures (same-is c.compare_named.result _ refl c.in-Same.is) c.if-rec-column.true
 
-sub-read-cell : tie.Need-overflow-sub-read-cell
+sub-read-cell : tie.Need-slice_bounds-read_cell-count
 sub-read-cell c = search rules
 
-part-read-cell-start : tie.Need-slice-bounds-read-cell-start
+part-read-cell-start : tie.Need-slice_bounds-read_cell-start
 part-read-cell-start c = search rules
 
-part-read-cell-end : tie.Need-slice-bounds-read-cell-end
-part-read-cell-end c = omega (arith, long c.before.before.before.before.before)
+part-read-cell-end : tie.Need-slice_bounds-read_cell-end
+part-read-cell-end c = omega (arith, long c.before.before.before.before)
 
-read-cell-requires : tie.Need-read-cell-requires
+read-cell-requires : tie.Need-read_cell-c-requires
 read-cell-requires c κs = search rules
 
 compare-requires : tie.Need-compare-requires
 compare-requires c κs = search rules
 
-enum-told-2 : tie.Need-enum-told-2
+enum-told-2 : tie.Need-enum_told-in-Same-compare
 enum-told-2 c = search rules
 
-returns-2 : tie.Need-returns-2
+returns-2 : tie.Need-returns-in-Same-compare
 returns-2 c =
-    let a = c.before.before.before.before.before.before.before.before.before.before.before.args in
-    sym (same-is c.before.before.compare.result _ refl c.enum-told2.given.1) ∙ group-value a.p a.rec.now (text_bytes a.name) a.column (meaning a.v) _ c.before.before.before.before.before.before.before.before.before.compare-named.ensures (same-is c.before.before.before.before.before.before.before.before.before.compare-named.result _ refl c.before.before.before.before.before.before.before.enum_told.given.1) c.before.before.before.before.before.if1.false _ c.before.before.before.read_cell.ensures.0 _ c.before.before.compare.ensures
+    let a = c.args in
+    sym (same-is c.compare.result _ refl c.in-Same-compare.is) ∙ group-value a.p a.rec.now (text_bytes a.name) a.column (meaning a.v) _ c.compare_named.ensures (same-is c.compare_named.result _ refl c.in-Same.is) c.if-rec-column.false _ c.read_cell-c.ensures.0 _ c.compare.ensures
 
-returns-3 : tie.Need-returns-3
+returns-3 : tie.Need-returns-in_default-compare
 returns-3 c =
-    let a = c.before.before.before.before.before.before.before.before.before.before.args in
-    sym (not_same c.before.compare.result _ refl c.match2.keys2) ∙ group-value a.p a.rec.now (text_bytes a.name) a.column (meaning a.v) _ c.before.before.before.before.before.before.before.before.compare-named.ensures (same-is c.before.before.before.before.before.before.before.before.compare-named.result _ refl c.before.before.before.before.before.before.enum_told.given.1) c.before.before.before.before.if1.false _ c.before.before.read_cell.ensures.0 _ c.before.compare.ensures
+    let a = c.args in
+    sym (not_same c.compare.result _ refl c.in_default-compare.in_default-compare-own.keys2) ∙ group-value a.p a.rec.now (text_bytes a.name) a.column (meaning a.v) _ c.compare_named.ensures (same-is c.compare_named.result _ refl c.in-Same.is) c.if-rec-column.false _ c.read_cell-c.ensures.0 _ c.compare.ensures
 
-returns-4 : tie.Need-returns-4
+returns-4 : tie.Need-returns-in_default
 returns-4 c =
-    let a = c.before.before.before.args in
-    group-other a.p a.rec.now (text_bytes a.name) a.column (meaning a.v) _ c.before.compare-named.ensures (not_same c.before.compare-named.result _ refl c.match.keys2)
+    let a = c.args in
+    group-other a.p a.rec.now (text_bytes a.name) a.column (meaning a.v) _ c.compare_named.ensures (not_same c.compare_named.result _ refl c.in_default.in_default-own.keys2)
 
-pub is-alike-spec : {M : Type 1} → statement M
-is-alike-spec =
+pub is_alike_spec : {M : Type 1} → statement M
+is_alike_spec =
     tie.close
     (tie.spec
     compare-named-requires

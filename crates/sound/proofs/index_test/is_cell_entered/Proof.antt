@@ -7,22 +7,22 @@ use borrow.Author.Rules.{rules}
 use Rattle.sound.proofs.index_test.is_cell_entered.Statement.{statement}
 use Rattle.sound.proofs.index_test.is_cell_entered.Tie as tie
 
-returns : tie.Need-returns
+returns : tie.Need-returns-then-not-c
 returns c =
-    let a = c.before.before.before.args in
-    entered-not (entries_in a.p a.places a.s.now) (column_of a.c) (meaning a.v) _ c.if1.true
+    let a = c.args in
+    entered-not (entries_in a.p a.places a.s.now) (column_of a.c) (meaning a.v) _ c.if-not-c.true
 
-is-asked-alone-requires : tie.Need-is-asked-alone-requires
+is-asked-alone-requires : tie.Need-is_asked_alone-alone-requires
 is-asked-alone-requires c κs = search rules
 
-is-entered-requires : tie.Need-is-entered-requires
+is-entered-requires : tie.Need-is_entered-requires
 is-entered-requires c κs = search rules
 
-returns-2 : tie.Need-returns-2
+returns-2 : tie.Need-returns
 returns-2 c =
-    let a = c.before.before.before.before.before.args in
-    entered-asked (entries_in a.p a.places a.s.now) (column_of a.c) (meaning a.v) (entry_of a.name a.column a.v a.key) c.before.before.if1.false _ c.before.is-asked-alone.ensures _ c.is-entered.ensures
+    let a = c.args in
+    entered-asked (entries_in a.p a.places a.s.now) (column_of a.c) (meaning a.v) (entry_of a.name a.column a.v a.key) c.if-not-c.false _ c.is_asked_alone-alone.ensures _ c.is_entered.ensures
 
-pub is-cell-entered-spec : {M : Type 1} → statement M
-is-cell-entered-spec =
+pub is_cell_entered_spec : {M : Type 1} → statement M
+is_cell_entered_spec =
     tie.close (tie.spec returns is-asked-alone-requires is-entered-requires returns-2)

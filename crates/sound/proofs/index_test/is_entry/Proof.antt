@@ -8,68 +8,68 @@ use borrow.Author.Rules.{rules}
 use Rattle.sound.proofs.index_test.is_entry.Statement.{statement}
 use Rattle.sound.proofs.index_test.is_entry.Tie as tie
 
-long : (c : tie.After-shared-slice-known) → length c.before.args.rec.now ≡ 78
+long : (c : tie.After-shared_slice_known-1) → length c.args.rec.now ≡ 78
 unfolding entry_width
 long c =
-    let q = c.before.requires in
+    let q = c.requires in
     omega (arith, q.0.cells, q.1)
 
-sub-is-name-cell : tie.Need-overflow-sub-is-name-cell
+sub-is-name-cell : tie.Need-slice_bounds-is_name_cell-count
 sub-is-name-cell c = search rules
 
-part-is-name-cell-start : tie.Need-slice-bounds-is-name-cell-start
+part-is-name-cell-start : tie.Need-slice_bounds-is_name_cell-start
 part-is-name-cell-start c = search rules
 
-part-is-name-cell-end : tie.Need-slice-bounds-is-name-cell-end
+part-is-name-cell-end : tie.Need-slice_bounds-is_name_cell-end
 part-is-name-cell-end c = omega (arith, long c)
 
-is-name-cell-requires : tie.Need-is-name-cell-requires
+is-name-cell-requires : tie.Need-is_name_cell-requires
 is-name-cell-requires c κs = search rules
 
-returns : tie.Need-returns
+returns : tie.Need-returns-then-not-is_name_cell
 returns c =
-    let a = c.before.before.before.before.args in
-    let q = c.before.before.before.before.requires in
-    entry-1 a.p q.0 a.rec.now (λ i. (c.before.before.before.shared-slice-known.given i).fits) q.1 _ c.before.is-name-cell.ensures c.if1.true
+    let a = c.args in
+    let q = c.requires in
+    entry-1 a.p q.0 a.rec.now (λ i. (c.shared_slice_known-1.given i).fits) q.1 _ c.is_name_cell.ensures c.if-not-is_name_cell.true
 
-sub-is-cell : tie.Need-overflow-sub-is-cell
+sub-is-cell : tie.Need-slice_bounds-is_cell-count
 sub-is-cell c = search rules
 
-part-is-cell-start : tie.Need-slice-bounds-is-cell-start
+part-is-cell-start : tie.Need-slice_bounds-is_cell-start
 part-is-cell-start c = search rules
 
-part-is-cell-end : tie.Need-slice-bounds-is-cell-end
+part-is-cell-end : tie.Need-slice_bounds-is_cell-end
 part-is-cell-end c = omega (arith, long c.before.before.before)
 
-is-cell-requires : tie.Need-is-cell-requires
+is-cell-requires : tie.Need-is_cell-requires
 is-cell-requires c κs = search rules
 
-returns-2 : tie.Need-returns-2
+returns-2 : tie.Need-returns-then-not-is_cell
 returns-2 c =
-    let a = c.before.before.before.before.before.before.before.args in
-    let q = c.before.before.before.before.before.before.before.requires in
-    entry-2 a.p q.0 a.rec.now (λ i. (c.before.before.before.before.before.before.shared-slice-known.given i).fits) q.1 _ c.before.before.before.before.is-name-cell.ensures c.before.before.before.if1.false _ c.before.is-cell.ensures c.if2.true
+    let a = c.args in
+    let q = c.requires in
+    entry-2 a.p q.0 a.rec.now (λ i. (c.shared_slice_known-1.given i).fits) q.1 _ c.is_name_cell.ensures c.if-not-is_name_cell.false _ c.is_cell.ensures c.if-not-is_cell.true
 
-sub-is-cell-2 : tie.Need-overflow-sub-is-cell-2
+sub-is-cell-2 : tie.Need-slice_bounds-is_cell-count-2
 sub-is-cell-2 c = search rules
 
-part-is-cell-start-2 : tie.Need-slice-bounds-is-cell-start-2
+part-is-cell-start-2 : tie.Need-slice_bounds-is_cell-start-2
 part-is-cell-start-2 c = search rules
 
-part-is-cell-end-2 : tie.Need-slice-bounds-is-cell-end-2
+part-is-cell-end-2 : tie.Need-slice_bounds-is_cell-end-2
 part-is-cell-end-2 c = omega (arith, long c.before.before.before.before.before.before)
 
-is-cell-requires-2 : tie.Need-is-cell-requires-2
+is-cell-requires-2 : tie.Need-is_cell-requires-2
 is-cell-requires-2 c κs = search rules
 
-returns-3 : tie.Need-returns-3
+returns-3 : tie.Need-returns
 returns-3 c =
-    let a = c.before.before.before.before.before.before.before.before.before.args in
-    let q = c.before.before.before.before.before.before.before.before.before.requires in
-    entry-3 a.p q.0 a.rec.now (λ i. (c.before.before.before.before.before.before.before.before.shared-slice-known.given i).fits) q.1 _ c.before.before.before.before.before.before.is-name-cell.ensures c.before.before.before.before.before.if1.false _ c.before.before.before.is-cell.ensures c.before.before.if2.false _ c.is-cell2.ensures
+    let a = c.args in
+    let q = c.requires in
+    entry-3 a.p q.0 a.rec.now (λ i. (c.shared_slice_known-1.given i).fits) q.1 _ c.is_name_cell.ensures c.if-not-is_name_cell.false _ c.is_cell.ensures c.if-not-is_cell.false _ c.is_cell-2.ensures
 
-pub is-entry-spec : {M : Type 1} → statement M
-is-entry-spec =
+pub is_entry_spec : {M : Type 1} → statement M
+is_entry_spec =
     tie.close
     (tie.spec
     sub-is-name-cell

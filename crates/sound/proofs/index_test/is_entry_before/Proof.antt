@@ -10,66 +10,66 @@ use borrow.Author.Rules.{rules}
 use Rattle.sound.proofs.index_test.is_entry_before.Statement.{statement}
 use Rattle.sound.proofs.index_test.is_entry_before.Tie as tie
 
-long-a : (c : tie.After-shared-slice-known2) → length c.before.before.args.a.now ≡ 78
+long-a : (c : tie.After-shared_slice_known-2-1) → length c.args.a.now ≡ 78
 unfolding entry_width
 long-a c =
-    let q = c.before.before.requires in
+    let q = c.requires in
     omega (arith, q.0.cells, q.1)
 
-long-b : (c : tie.After-shared-slice-known2) → length c.before.before.args.b.now ≡ 78
+long-b : (c : tie.After-shared_slice_known-2-1) → length c.args.b.now ≡ 78
 unfolding entry_width
 long-b c =
-    let q = c.before.before.requires in
+    let q = c.requires in
     omega (arith, q.0.cells, q.2)
 
-read-name-requires : tie.Need-read-name-requires
+read-name-requires : tie.Need-read_name-name-requires
 read-name-requires c κs = omega (arith, long-b c)
 
-sub-read-cell : tie.Need-overflow-sub-read-cell
+sub-read-cell : tie.Need-slice_bounds-read_cell-count
 sub-read-cell c = search rules
 
-part-read-cell-start : tie.Need-slice-bounds-read-cell-start
+part-read-cell-start : tie.Need-slice_bounds-read_cell-start
 part-read-cell-start c = search rules
 
-part-read-cell-end : tie.Need-slice-bounds-read-cell-end
+part-read-cell-end : tie.Need-slice_bounds-read_cell-end
 part-read-cell-end c = omega (arith, long-b c.before)
 
-read-cell-requires : tie.Need-read-cell-requires
+read-cell-requires : tie.Need-read_cell-first-requires
 read-cell-requires c κs = search rules
 
-sub-read-cell-2 : tie.Need-overflow-sub-read-cell-2
+sub-read-cell-2 : tie.Need-slice_bounds-read_cell-count-2
 sub-read-cell-2 c = search rules
 
-part-read-cell-start-2 : tie.Need-slice-bounds-read-cell-start-2
+part-read-cell-start-2 : tie.Need-slice_bounds-read_cell-start-2
 part-read-cell-start-2 c = search rules
 
-part-read-cell-end-2 : tie.Need-slice-bounds-read-cell-end-2
+part-read-cell-end-2 : tie.Need-slice_bounds-read_cell-end-2
 part-read-cell-end-2 c = omega (arith, long-b c.before.before.before)
 
-read-cell-requires-2 : tie.Need-read-cell-requires-2
+read-cell-requires-2 : tie.Need-read_cell-second-requires
 read-cell-requires-2 c κs = search rules
 
-shared-slice-read-compare-entered : tie.Need-shared-slice-read-compare-entered
+shared-slice-read-compare-entered : tie.Need-bounds-b-25
 shared-slice-read-compare-entered c = omega (arith, long-b c.before.before.before.before.before.before)
 
-compare-entered-requires : tie.Need-compare-entered-requires
-compare-entered-requires c κs = (omega (arith, long-a c.before.before.before.before.before.before), c.before.before.before.before.before.read_name.ensures.1, c.before.before.before.read_cell.ensures.1, c.before.read-cell2.ensures.1)
+compare-entered-requires : tie.Need-compare_entered-requires
+compare-entered-requires c κs = (omega (arith, long-a c.before.before.before.before.before.before), c.read_name-name.ensures.1, c.read_cell-first.ensures.1, c.read_cell-second.ensures.1)
 
-enum_told : tie.Need-enum-told
+enum_told : tie.Need-enum_told-1
 enum_told c = search rules
 
-returns : tie.Need-returns
+returns : tie.Need-returns-in-Less
 returns c =
-    let a = c.before.before.before.before.before.before.before.before.before.before.before.args in
-    less-is c.before.before.compare-entered.result _ (entered-order a.p c.before.before.before.before.before.before.before.before.before.before.before.requires.0 a.a.now a.b.now _ _ _ _ c.before.before.before.before.before.before.before.before.read_name.ensures.0 c.before.before.before.before.before.before.read_cell.ensures.0 c.before.before.before.before.read-cell2.ensures.0 c.before.before.compare-entered.ensures) c.enum_told.given.1
+    let a = c.args in
+    less-is c.compare_entered.result _ (entered-order a.p c.requires.0 a.a.now a.b.now _ _ _ _ c.read_name-name.ensures.0 c.read_cell-first.ensures.0 c.read_cell-second.ensures.0 c.compare_entered.ensures) c.in-Less.is
 
-returns-2 : tie.Need-returns-2
+returns-2 : tie.Need-returns-in_default
 returns-2 c =
-    let a = c.before.before.before.before.before.before.before.before.before.before.args in
-    less-not c.before.compare-entered.result _ (entered-order a.p c.before.before.before.before.before.before.before.before.before.before.requires.0 a.a.now a.b.now _ _ _ _ c.before.before.before.before.before.before.before.read_name.ensures.0 c.before.before.before.before.before.read_cell.ensures.0 c.before.before.before.read-cell2.ensures.0 c.before.compare-entered.ensures) (not-less c.before.compare-entered.result c.match.keys2)
+    let a = c.args in
+    less-not c.compare_entered.result _ (entered-order a.p c.requires.0 a.a.now a.b.now _ _ _ _ c.read_name-name.ensures.0 c.read_cell-first.ensures.0 c.read_cell-second.ensures.0 c.compare_entered.ensures) (not-less c.compare_entered.result c.in_default.in_default-own.keys2)
 
-pub is-entry-before-spec : {M : Type 1} → statement M
-is-entry-before-spec =
+pub is_entry_before_spec : {M : Type 1} → statement M
+is_entry_before_spec =
     tie.close
     (tie.spec
     read-name-requires

@@ -14,51 +14,51 @@ use borrow.Author.Rules.{rules}
 use Rattle.sound.proofs.index_test.is_row_entered.Statement.{statement}
 use Rattle.sound.proofs.index_test.is_row_entered.Tie as tie
 
-long : (c : tie.After-shared-slice-known2) → 25 ≤ length c.before.before.args.row.now
+long : (c : tie.After-shared_slice_known-2-1) → 25 ≤ length c.args.row.now
 unfolding row_width
-long c = omega (arith, c.before.before.requires.1)
+long c = omega (arith, c.requires.1)
 
-found : (c : tie.After-table-record) →
-    let a = c.before.before.before.before.before.before.before.before.args in
-    Here a.p a.places a.s.now (read_name a.row.now) c.table-record.result.now
+found : (c : tie.After-table_record) →
+    let a = c.args in
+    Here a.p a.places a.s.now (read_name a.row.now) c.table_record.result.now
 found c =
-    let a = c.before.before.before.before.before.before.before.before.args in
-    found_here a.p a.places a.s.now (text_bytes c.before.before.before.before.before.read_name.result) c.before.before.before.before.get-table.result c.before.before.before.before.get-table.ensures c.before.before.i.given.0.0 c.before.before.i.given.1 c.before.before.before.before.before.before.before.before.requires.0.tabled.schemed _ c.table-record.ensures _ c.before.before.before.before.before.read_name.ensures.0
+    let a = c.args in
+    found_here a.p a.places a.s.now (text_bytes c.read_name.result) c.get_table.result c.get_table.ensures c.in-At.i c.in-At.is c.requires.0.tabled.schemed _ c.table_record.ensures _ c.read_name.ensures.0
 
-read-name-requires : tie.Need-read-name-requires
+read-name-requires : tie.Need-read_name-requires
 read-name-requires c κs = long c
 
-get-table-requires : tie.Need-get-table-requires
+get-table-requires : tie.Need-get_table-requires
 get-table-requires c κs = search rules
 
-enum-known-i : tie.Need-enum-known-i
+enum-known-i : tie.Need-enum_known-i
 enum-known-i c = search rules
 
-enum_told : tie.Need-enum-told
+enum_told : tie.Need-enum_told-1
 enum_told c = search rules
 
-returns : tie.Need-returns
+returns : tie.Need-returns-in_default
 returns c =
-    let a = c.before.before.before.before.before.before.args in
-    entered-nowhere a.p (parse a.p a.places a.s.now).tables a.row.now (entries_in a.p a.places a.s.now) (found_none a.p a.places a.s.now (text_bytes c.before.before.before.read_name.result) c.before.before.get-table.result c.before.before.get-table.ensures _ c.before.before.before.read_name.ensures.0 c.enum_told.given.1)
+    let a = c.args in
+    entered-nowhere a.p (parse a.p a.places a.s.now).tables a.row.now (entries_in a.p a.places a.s.now) (found_none a.p a.places a.s.now (text_bytes c.read_name.result) c.get_table.result c.get_table.ensures _ c.read_name.ensures.0 c.in_default.is)
 
-table-record-requires : tie.Need-table-record-requires
+table-record-requires : tie.Need-table_record-requires
 table-record-requires c κs =
-    let a = c.before.before.before.before.before.before.before.args in
-    (c.before.before.before.before.before.before.before.requires.0.tabled.schemed.catalog.inside, found_below a.p a.places a.s.now (text_bytes c.before.before.before.before.read_name.result) c.before.before.before.get-table.result c.before.before.before.get-table.ensures c.before.i.given.0.0 c.before.i.given.1)
+    let a = c.args in
+    (c.requires.0.tabled.schemed.catalog.inside, found_below a.p a.places a.s.now (text_bytes c.read_name.result) c.get_table.result c.get_table.ensures c.in-At.i c.in-At.is)
 
-are-cells-entered-requires : tie.Need-are-cells-entered-requires
+are-cells-entered-requires : tie.Need-are_cells_entered-requires
 are-cells-entered-requires c κs =
-    let q = c.before.before.before.before.before.before.before.before.requires in
+    let q = c.requires in
     (q.0, found c, q.1)
 
-returns-2 : tie.Need-returns-2
+returns-2 : tie.Need-returns
 returns-2 c =
-    let a = c.before.before.before.before.before.before.before.before.before.args in
-    entered_here a.p (parse a.p a.places a.s.now).tables a.row.now (entries_in a.p a.places a.s.now) c.before.before.before.before.before.before.before.before.before.requires.0.tabled.schemed.catalog.inside.coded (read_table a.p c.before.table-record.result.now) (found c.before).named _ c.are-cells-entered.ensures
+    let a = c.args in
+    entered_here a.p (parse a.p a.places a.s.now).tables a.row.now (entries_in a.p a.places a.s.now) c.requires.0.tabled.schemed.catalog.inside.coded (read_table a.p c.table_record.result.now) (found c.before).named _ c.are_cells_entered.ensures
 
-pub is-row-entered-spec : {M : Type 1} → statement M
-is-row-entered-spec =
+pub is_row_entered_spec : {M : Type 1} → statement M
+is_row_entered_spec =
     tie.close
     (tie.spec
     read-name-requires

@@ -8,62 +8,62 @@ use borrow.Author.Rules.{rules}
 use Rattle.sound.proofs.journal_test.is_sound_journal.Statement.{statement}
 use Rattle.sound.proofs.journal_test.is_sound_journal.Tie as tie
 
-right-journal-requires : tie.Need-right-journal-requires
-right-journal-requires c κs = c.before.before.before.requires.1.coded.known
+right-journal-requires : tie.Need-right_journal-requires
+right-journal-requires c κs = c.before.requires.1.coded.known
 
-same_length : tie.Need-same-length
+same_length : tie.Need-shape_of-j-then-not-right_journal
 same_length c = search rules
 
-returns : tie.Need-returns
-returns c = let a = c.before.before.before.before.before.args in let q = c.before.before.before.before.before.requires in (wrong-journal a.p a.places a.s.now a.j.now (was-false c.before.right-journal.ensures c.if1.true), refl, refl)
+returns : tie.Need-returns-then-not-right_journal
+returns c = let a = c.before.args in let q = c.before.requires in (wrong-journal a.p a.places a.s.now a.j.now (was-false c.right_journal.ensures c.if-not-right_journal.true), refl, refl)
 
-is-open-requires : tie.Need-is-open-requires
-is-open-requires c κs = let a = c.before.before.before.before.before.before.args in let q = c.before.before.before.before.before.before.requires in let h = was-true c.before.before.right-journal.ensures c.before.if1.false in omega (arith, (right-journal a.p a.j.now h).long)
+is-open-requires : tie.Need-is_open-requires
+is-open-requires c κs = let a = c.before.before.args in let q = c.before.before.requires in let h = was-true c.right-journal.ensures c.if1.false in omega (arith, (right-journal a.p a.j.now h).long)
 
-all-zero-requires : tie.Need-all-zero-requires
+all-zero-requires : tie.Need-all_zero-requires
 all-zero-requires c κs = search rules
 
-same-length-2 : tie.Need-same-length-2
+same-length-2 : tie.Need-shape_of-j-then-not-is_open
 same-length-2 c = search rules
 
-returns-2 : tie.Need-returns-2
-returns-2 c = let a = c.before.before.before.before.before.before.before.before.before.before.args in let q = c.before.before.before.before.before.before.before.before.before.before.requires in let h = was-true c.before.before.before.before.before.before.right-journal.ensures c.before.before.before.before.before.if1.false in (c.all-zero.ensures ∙ closed-verdict a.p a.places a.s.now a.j.now h (not-false _ (sym c.before.before.before.is_open.ensures ∙ not-true _ c.before.before.if2.true)), refl, refl)
+returns-2 : tie.Need-returns-then-not-is_open
+returns-2 c = let a = c.before.before.before.args in let q = c.before.before.before.requires in let h = was-true c.right-journal.ensures c.if1.false in (c.all_zero.ensures ∙ closed-verdict a.p a.places a.s.now a.j.now h (not-false _ (sym c.is_open.ensures ∙ not-true _ c.if2.true)), refl, refl)
 
-is-journal-laid-requires : tie.Need-is-journal-laid-requires
-is-journal-laid-requires c κs = let a = c.before.before.before.before.before.before.before.before.before.args in let q = c.before.before.before.before.before.before.before.before.before.requires in let h = was-true c.before.before.before.before.before.right-journal.ensures c.before.before.before.before.if1.false in (q.1.coded.known, h)
+is-journal-laid-requires : tie.Need-is_journal_laid-requires
+is-journal-laid-requires c κs = let a = c.before.before.before.args in let q = c.before.before.before.requires in let h = was-true c.right-journal.ensures c.if1.false in (q.1.coded.known, h)
 
-same-length-3 : tie.Need-same-length-3
+same-length-3 : tie.Need-shape_of-j-then-not-is_journal_laid
 same-length-3 c = search rules
 
-returns-3 : tie.Need-returns-3
-returns-3 c = let a = c.before.before.before.before.before.before.before.before.before.before.before.args in let q = c.before.before.before.before.before.before.before.before.before.before.before.requires in let h = was-true c.before.before.before.before.before.before.before.right-journal.ensures c.before.before.before.before.before.before.if1.false in let o = not-true _ (sym c.before.before.before.before.is_open.ensures ∙ not-false _ c.before.before.before.if2.false) in (not-laid q.0 a.j.now (λ i. (c.before.before.before.before.before.before.before.before.before.slice-known2.given i).fits) h o c.before.is-journal-laid.ensures c.if3.true, refl, refl)
+returns-3 : tie.Need-returns-then-not-is_journal_laid
+returns-3 c = let a = c.before.before.before.args in let q = c.before.before.before.requires in let h = was-true c.right-journal.ensures c.if1.false in let o = not-true _ (sym c.is_open.ensures ∙ not-false _ c.if2.false) in (not-laid q.0 a.j.now (λ i. (c.before.slice-known2.given i).fits) h o c.is_journal_laid.ensures c.if-not-is_journal_laid.true, refl, refl)
 
-are-events-requires : tie.Need-are-events-requires
-are-events-requires c κs = let a = c.before.before.before.before.before.before.before.before.before.before.before.before.before.args in let q = c.before.before.before.before.before.before.before.before.before.before.before.before.before.requires in let h = was-true c.before.before.before.before.before.before.before.before.before.right-journal.ensures c.before.before.before.before.before.before.before.before.if1.false in (store-schemed q.0, h, laid-few a.p a.j.now (was-true c.before.before.before.is-journal-laid.ensures c.before.before.if3.false))
+are-events-requires : tie.Need-are_events-requires
+are-events-requires c κs = let a = c.before.before.before.before.before.args in let q = c.before.before.before.before.before.requires in let h = was-true c.before.right-journal.ensures c.if1.false in (store-schemed q.0, h, laid-few a.p a.j.now (was-true c.is-journal-laid.ensures c.if3.false))
 
-same-length-4 : tie.Need-same-length-4
+same-length-4 : tie.Need-shape_of-s-then-not-are_events
 same-length-4 c = search rules
 
-same-length-5 : tie.Need-same-length-5
+same-length-5 : tie.Need-shape_of-j-then-not-are_events
 same-length-5 c = search rules
 
-returns-4 : tie.Need-returns-4
-returns-4 c = let a = c.before.before.before.before.before.before.before.before.before.before.before.before.before.before.before.args in let q = c.before.before.before.before.before.before.before.before.before.before.before.before.before.before.before.requires in let h = was-true c.before.before.before.before.before.before.before.before.before.before.before.right-journal.ensures c.before.before.before.before.before.before.before.before.before.before.if1.false in let o = not-true _ (sym c.before.before.before.before.before.before.before.before.is_open.ensures ∙ not-false _ c.before.before.before.before.before.before.before.if2.false) in (not-events q.0 a.j.now (λ i. (c.before.before.before.before.before.before.before.before.before.before.before.before.before.slice-known2.given i).fits) h o c.before.before.before.before.before.is-journal-laid.ensures c.before.before.before.before.if3.false c.before.are-events.ensures c.if4.true, refl, refl)
+returns-4 : tie.Need-returns-then-not-are_events
+returns-4 c = let a = c.before.before.before.before.before.args in let q = c.before.before.before.before.before.requires in let h = was-true c.before.right-journal.ensures c.if1.false in let o = not-true _ (sym c.is_open.ensures ∙ not-false _ c.if2.false) in (not-events q.0 a.j.now (λ i. (c.before.before.before.slice-known2.given i).fits) h o c.is-journal-laid.ensures c.if3.false c.are_events.ensures c.if-not-are_events.true, refl, refl)
 
-is-backed-requires : tie.Need-is-backed-requires
-is-backed-requires c κs = let a = c.before.before.before.before.before.before.before.before.before.before.before.before.before.before.before.before.before.args in let q = c.before.before.before.before.before.before.before.before.before.before.before.before.before.before.before.before.before.requires in let h = was-true c.before.before.before.before.before.before.before.before.before.before.before.before.before.right-journal.ensures c.before.before.before.before.before.before.before.before.before.before.before.before.if1.false in let o = not-true _ (sym c.before.before.before.before.before.before.before.before.before.before.is_open.ensures ∙ not-false _ c.before.before.before.before.before.before.before.before.before.if2.false) in (open-batch q.0 a.j.now (λ i. (c.before.before.before.before.before.before.before.before.before.before.before.before.before.before.before.slice-known2.given i).fits) h o q.1 (was-true c.before.before.before.before.before.before.before.is-journal-laid.ensures c.before.before.before.before.before.before.if3.false) (was-true c.before.before.before.are-events.ensures c.before.before.if4.false), q.0.some)
+is-backed-requires : tie.Need-is_backed-requires
+is-backed-requires c κs = let a = c.before.before.before.before.before.args in let q = c.before.before.before.before.before.requires in let h = was-true c.before.right-journal.ensures c.if1.false in let o = not-true _ (sym c.is_open.ensures ∙ not-false _ c.if2.false) in (open-batch q.0 a.j.now (λ i. (c.before.before.before.slice-known2.given i).fits) h o q.1 (was-true c.is-journal-laid.ensures c.if3.false) (was-true c.are_events.ensures c.if-not-are_events.false), q.0.some)
 
-same-length-6 : tie.Need-same-length-6
+same-length-6 : tie.Need-shape_of-s
 same-length-6 c = search rules
 
-same-length-7 : tie.Need-same-length-7
+same-length-7 : tie.Need-shape_of-j
 same-length-7 c = search rules
 
-returns-5 : tie.Need-returns-5
-returns-5 c = let a = c.before.before.before.before.before.before.before.before.before.before.before.before.before.before.before.before.before.before.before.before.before.before.args in let q = c.before.before.before.before.before.before.before.before.before.before.before.before.before.before.before.before.before.before.before.before.before.before.requires in let h = was-true c.before.before.before.before.before.before.before.before.before.before.before.before.before.before.before.before.before.before.right-journal.ensures c.before.before.before.before.before.before.before.before.before.before.before.before.before.before.before.before.before.if1.false in let o = not-true _ (sym c.before.before.before.before.before.before.before.before.before.before.before.before.before.before.before.is_open.ensures ∙ not-false _ c.before.before.before.before.before.before.before.before.before.before.before.before.before.before.if2.false) in let e = c.before.before.before.before.is-backed.ensures in (by-taking-back q.0 a.j.now (λ i. (c.before.before.before.before.before.before.before.before.before.before.before.before.before.before.before.before.before.before.before.before.slice-known2.given i).fits) h o c.before.before.before.before.before.before.before.before.before.before.before.before.is-journal-laid.ensures c.before.before.before.before.before.before.before.before.before.before.before.if3.false c.before.before.before.before.before.before.before.before.are-events.ensures c.before.before.before.before.before.before.before.if4.false _ e.0, e.1, e.2)
+returns-5 : tie.Need-returns
+returns-5 c = let a = c.before.before.before.before.before.args in let q = c.before.before.before.before.before.requires in let h = was-true c.before.right-journal.ensures c.if1.false in let o = not-true _ (sym c.is_open.ensures ∙ not-false _ c.if2.false) in let e = c.is_backed.ensures in (by-taking-back q.0 a.j.now (λ i. (c.before.before.before.slice-known2.given i).fits) h o c.is-journal-laid.ensures c.if3.false c.are_events.ensures c.if-not-are_events.false _ e.0, e.1, e.2)
 
-pub is-sound-journal-spec : {M : Type 1} → statement M
-is-sound-journal-spec =
+pub is_sound_journal_spec : {M : Type 1} → statement M
+is_sound_journal_spec =
     tie.close
     (tie.spec
     right-journal-requires

@@ -5,14 +5,14 @@ use borrow.Author.Rules.{rules}
 use Rattle.sound.proofs.journal_test.is_well.Statement.{statement}
 use Rattle.sound.proofs.journal_test.is_well.Tie as tie
 
-returns : tie.Need-returns
-returns c = let a = c.before.before.args in not-all a.i (sound a.p a.s.now) c.if1.true
+returns : tie.Need-returns-then-i-gt0
+returns c = let a = c.args in not-all a.i (sound a.p a.s.now) c.if-i-gt0.true
 
-is-sound-of-requires : tie.Need-is-sound-of-requires
+is-sound-of-requires : tie.Need-is_sound_of-requires
 is-sound-of-requires c κs = search rules
 
-returns-2 : tie.Need-returns-2
-returns-2 c = let a = c.before.before.before.args in all-taken a.i c.before.if1.false c.is-sound-of.ensures
+returns-2 : tie.Need-returns
+returns-2 c = let a = c.args in all-taken a.i c.if-i-gt0.false c.is_sound_of.ensures
 
-pub is-well-spec : {M : Type 1} → statement M
-is-well-spec = tie.close (tie.spec returns is-sound-of-requires returns-2)
+pub is_well_spec : {M : Type 1} → statement M
+is_well_spec = tie.close (tie.spec returns is-sound-of-requires returns-2)

@@ -17,101 +17,101 @@ use borrow.Author.Rules.{rules}
 use Rattle.sound.proofs.reference_test.has_row.Statement.{statement}
 use Rattle.sound.proofs.reference_test.has_row.Tie as tie
 
-found : (c : tie.After-table-record) →
-    let a = c.before.before.before.before.before.before.args in
-    Here a.p a.places a.s.now (text_bytes a.name) c.table-record.result.now
+found : (c : tie.After-table_record) →
+    let a = c.args in
+    Here a.p a.places a.s.now (text_bytes a.name) c.table_record.result.now
 found c =
-    let a = c.before.before.before.before.before.before.args in
-    found_here a.p a.places a.s.now (text_bytes a.name) c.before.before.before.before.get-table.result c.before.before.before.before.get-table.ensures c.before.before.t.given.0.0 c.before.before.t.given.1 c.before.before.before.before.before.before.requires.0.schemed _ c.table-record.ensures _ refl
+    let a = c.args in
+    found_here a.p a.places a.s.now (text_bytes a.name) c.get_table.result c.get_table.ensures c.in-At.t c.in-At.is c.requires.0.schemed _ c.table_record.ensures _ refl
 
-start : (c : tie.After-rows-at) → c.rows_at.result ≤ length c.before.before.before.before.before.before.before.before.before.before.args.s.now
+start : (c : tie.After-rows_at-from) → c.rows_at-from.result ≤ length c.args.s.now
 start c =
-    let a = c.before.before.before.before.before.before.before.before.before.before.args in
-    omega (arith, c.rows_at.ensures, c.before.before.before.before.before.before.before.before.before.before.requires.0.schemed.catalog.inside.long, area-within a.p a.places Rows)
+    let a = c.args in
+    omega (arith, c.rows_at-from.ensures, c.requires.0.schemed.catalog.inside.long, area-within a.p a.places Rows)
 
-wide : (c : tie.After-row-width) → 25 ≤ c.row-width.result
+wide : (c : tie.After-row_width-width) → 25 ≤ c.row_width-width.result
 unfolding row_width
-wide c = omega (arith, c.row-width.ensures)
+wide c = omega (arith, c.row_width-width.ensures)
 
-get-table-requires : tie.Need-get-table-requires
+get-table-requires : tie.Need-get_table-requires
 get-table-requires c κs = search rules
 
-enum-known-t : tie.Need-enum-known-t
+enum-known-t : tie.Need-enum_known-t
 enum-known-t c = search rules
 
-enum_told : tie.Need-enum-told
+enum_told : tie.Need-enum_told-1
 enum_told c = search rules
 
-returns : tie.Need-returns
+returns : tie.Need-returns-in_default
 returns c =
-    let a = c.before.before.before.before.args in
-    has-nowhere a.p a.places a.s.now c.before.before.before.before.requires.0 (text_bytes a.name) (meaning a.key) (found_none a.p a.places a.s.now (text_bytes a.name) c.before.before.get-table.result c.before.before.get-table.ensures _ refl c.enum_told.given.1)
+    let a = c.args in
+    has-nowhere a.p a.places a.s.now c.requires.0 (text_bytes a.name) (meaning a.key) (found_none a.p a.places a.s.now (text_bytes a.name) c.get_table.result c.get_table.ensures _ refl c.in_default.is)
 
-table-record-requires : tie.Need-table-record-requires
+table-record-requires : tie.Need-table_record-requires
 table-record-requires c κs =
-    let a = c.before.before.before.before.before.args in
-    (c.before.before.before.before.before.requires.0.schemed.catalog.inside, found_below a.p a.places a.s.now (text_bytes a.name) c.before.before.before.get-table.result c.before.before.before.get-table.ensures c.before.t.given.0.0 c.before.t.given.1)
+    let a = c.args in
+    (c.requires.0.schemed.catalog.inside, found_below a.p a.places a.s.now (text_bytes a.name) c.get_table.result c.get_table.ensures c.in-At.t c.in-At.is)
 
-key-at-requires : tie.Need-key-at-requires
+key-at-requires : tie.Need-key_at-at-requires
 key-at-requires c κs = ((found c).bytes, (found c).keyed)
 
-row-count-requires : tie.Need-row-count-requires
+row-count-requires : tie.Need-row_count-count-requires
 row-count-requires c κs =
-    let a = c.before.before.before.before.before.before.before.args in
-    inside-header a.p a.places a.s.now c.before.before.before.before.before.before.before.requires.0.schemed.catalog.inside
+    let a = c.args in
+    inside-header a.p a.places a.s.now c.requires.0.schemed.catalog.inside
 
-row-width-requires : tie.Need-row-width-requires
+row-width-requires : tie.Need-row_width-width-requires
 row-width-requires c κs = search rules
 
-rows-at-requires : tie.Need-rows-at-requires
+rows-at-requires : tie.Need-rows_at-from-requires
 rows-at-requires c κs = search rules
 
-sub-keyed-before : tie.Need-overflow-sub-keyed-before
+sub-keyed-before : tie.Need-slice_bounds-keyed_before-count
 sub-keyed-before c = start c
 
-part-keyed-before-start : tie.Need-slice-bounds-keyed-before-start
+part-keyed-before-start : tie.Need-slice_bounds-keyed_before-start
 part-keyed-before-start c = start c
 
-part-keyed-before-end : tie.Need-slice-bounds-keyed-before-end
+part-keyed-before-end : tie.Need-slice_bounds-keyed_before-end
 part-keyed-before-end c = search rules
 
-keyed-before-requires : tie.Need-keyed-before-requires
+keyed-before-requires : tie.Need-keyed_before-i-requires
 keyed-before-requires c κs =
-    let a = c.before.before.before.before.before.before.before.before.before.before.before.args in
-    let q = c.before.before.before.before.before.before.before.before.before.before.before.requires in
-    ((wide c.before.before, omega (arith, c.before.before.before.before.key-at.ensures.1, c.before.before.row-width.ensures), q.1, q.2), rows-searched a.p a.places a.s.now q.0 (text_bytes a.name) (meaning a.key) c.before.before.before.before.before.table-record.result.now (found c.before.before.before.before.before) _ c.before.before.before.before.key-at.ensures.0 _ _ _ c.before.rows_at.ensures c.before.before.row-width.ensures c.before.before.before.row_count.ensures)
+    let a = c.args in
+    let q = c.requires in
+    ((wide c.before.before, omega (arith, c.key_at-at.ensures.1, c.row_width-width.ensures), q.1, q.2), rows-searched a.p a.places a.s.now q.0 (text_bytes a.name) (meaning a.key) c.table_record.result.now (found c.before.before.before.before.before) _ c.key_at-at.ensures.0 _ _ _ c.rows_at-from.ensures c.row_width-width.ensures c.row_count-count.ensures)
 
-returns-2 : tie.Need-returns-2
+returns-2 : tie.Need-returns-then-count-i
 returns-2 c =
-    let a = c.before.before.before.before.before.before.before.before.before.before.before.before.before.args in
-    row-past a.p a.places a.s.now c.before.before.before.before.before.before.before.before.before.before.before.before.before.requires.0 (text_bytes a.name) (meaning a.key) c.before.before.before.before.before.before.before.table-record.result.now (found c.before.before.before.before.before.before.before) _ c.before.before.before.before.before.before.key-at.ensures.0 _ _ _ c.before.before.before.rows_at.ensures c.before.before.before.before.row-width.ensures c.before.before.before.before.before.row_count.ensures _ c.before.keyed-before.ensures c.if1.true
+    let a = c.args in
+    row-past a.p a.places a.s.now c.requires.0 (text_bytes a.name) (meaning a.key) c.table_record.result.now (found c.before.before.before.before.before.before.before) _ c.key_at-at.ensures.0 _ _ _ c.rows_at-from.ensures c.row_width-width.ensures c.row_count-count.ensures _ c.keyed_before-i.ensures c.if-count-i.true
 
-row-record-requires : tie.Need-row-record-requires
+row-record-requires : tie.Need-row_record-requires
 row-record-requires c κs =
-    let a = c.before.before.before.before.before.before.before.before.before.before.before.before.before.args in
-    (c.before.before.before.before.before.before.before.before.before.before.before.before.before.requires.0.schemed.catalog.inside, below a.p a.places a.s.now Rows _ c.before.before.before.before.before.row_count.ensures _ c.if1.false)
+    let a = c.args in
+    (c.requires.0.schemed.catalog.inside, below a.p a.places a.s.now Rows _ c.row_count-count.ensures _ c.if-count-i.false)
 
-compare-keyed-requires : tie.Need-compare-keyed-requires
+compare-keyed-requires : tie.Need-compare_keyed-requires
 compare-keyed-requires c κs =
-    let a = c.before.before.before.before.before.before.before.before.before.before.before.before.before.before.args in
-    let q = c.before.before.before.before.before.before.before.before.before.before.before.before.before.before.requires in
-    let l = wide_of a.p a.places a.s.now Rows _ c.before.before.before.before.before.before.row_count.ensures q.0.schemed.catalog.inside _ _ c.before.if1.false c.row-record.ensures in (omega (arith, l, wide c.before.before.before.before.before, c.before.before.before.before.before.row-width.ensures), omega (arith, l, c.before.before.before.before.before.before.before.key-at.ensures.1), q.1, q.2)
+    let a = c.args in
+    let q = c.requires in
+    let l = wide_of a.p a.places a.s.now Rows _ c.row_count-count.ensures q.0.schemed.catalog.inside _ _ c.if-count-i.false c.row_record.ensures in (omega (arith, l, wide c.before.before.before.before.before, c.row_width-width.ensures), omega (arith, l, c.key_at-at.ensures.1), q.1, q.2)
 
-enum-told-2 : tie.Need-enum-told-2
+enum-told-2 : tie.Need-enum_told-in-Same
 enum-told-2 c = search rules
 
-returns-3 : tie.Need-returns-3
+returns-3 : tie.Need-returns-in-Same
 returns-3 c =
-    let a = c.before.before.before.before.before.before.before.before.before.before.before.before.before.before.before.before.before.args in
-    sym (same-is c.before.before.compare-keyed.result _ refl c.enum-told2.given.1) ∙ row_here a.p a.places a.s.now c.before.before.before.before.before.before.before.before.before.before.before.before.before.before.before.before.before.requires.0 (text_bytes a.name) (meaning a.key) c.before.before.before.before.before.before.before.before.before.before.before.table-record.result.now (found c.before.before.before.before.before.before.before.before.before.before.before) _ c.before.before.before.before.before.before.before.before.before.before.key-at.ensures.0 _ _ _ c.before.before.before.before.before.before.before.rows_at.ensures c.before.before.before.before.before.before.before.before.row-width.ensures c.before.before.before.before.before.before.before.before.before.row_count.ensures _ c.before.before.before.before.before.keyed-before.ensures c.before.before.before.before.if1.false _ c.before.before.before.row-record.ensures _ c.before.before.compare-keyed.ensures
+    let a = c.args in
+    sym (same-is c.compare_keyed.result _ refl c.in-Same.is) ∙ row_here a.p a.places a.s.now c.requires.0 (text_bytes a.name) (meaning a.key) c.table_record.result.now (found c.before.before.before.before.before.before.before.before.before.before) _ c.key_at-at.ensures.0 _ _ _ c.rows_at-from.ensures c.row_width-width.ensures c.row_count-count.ensures _ c.keyed_before-i.ensures c.if-count-i.false _ c.row_record.ensures _ c.compare_keyed.ensures
 
-returns-4 : tie.Need-returns-4
+returns-4 : tie.Need-returns-in_default-compare_keyed
 returns-4 c =
-    let a = c.before.before.before.before.before.before.before.before.before.before.before.before.before.before.before.before.args in
-    sym (not_same c.before.compare-keyed.result _ refl c.match2.keys2) ∙ row_here a.p a.places a.s.now c.before.before.before.before.before.before.before.before.before.before.before.before.before.before.before.before.requires.0 (text_bytes a.name) (meaning a.key) c.before.before.before.before.before.before.before.before.before.before.table-record.result.now (found c.before.before.before.before.before.before.before.before.before.before) _ c.before.before.before.before.before.before.before.before.before.key-at.ensures.0 _ _ _ c.before.before.before.before.before.before.rows_at.ensures c.before.before.before.before.before.before.before.row-width.ensures c.before.before.before.before.before.before.before.before.row_count.ensures _ c.before.before.before.before.keyed-before.ensures c.before.before.before.if1.false _ c.before.before.row-record.ensures _ c.before.compare-keyed.ensures
+    let a = c.args in
+    sym (not_same c.compare_keyed.result _ refl c.in_default-compare_keyed.in_default-compare_keyed-own.keys2) ∙ row_here a.p a.places a.s.now c.requires.0 (text_bytes a.name) (meaning a.key) c.table_record.result.now (found c.before.before.before.before.before.before.before.before.before.before) _ c.key_at-at.ensures.0 _ _ _ c.rows_at-from.ensures c.row_width-width.ensures c.row_count-count.ensures _ c.keyed_before-i.ensures c.if-count-i.false _ c.row_record.ensures _ c.compare_keyed.ensures
 
-pub has-row-spec : {M : Type 1} → statement M
-has-row-spec =
+pub has_row_spec : {M : Type 1} → statement M
+has_row_spec =
     tie.close
     (tie.spec
     get-table-requires

@@ -12,68 +12,68 @@ use Rattle.sound.proofs.Walks.{Asked, Turned, fewer-left, next_fits}
 use Rattle.sound.proofs.row_test.are_cells.Statement.{statement}
 use Rattle.sound.proofs.row_test.are_cells.Tie as tie
 
-abbrev invariant-loop : tie.invariant-loop
+abbrev invariant-loop : tie.invariant-loop-i
 invariant-loop row count i₀ i = Asked is_cell (records 26 count (drop 25 row)) i
 
-abbrev decreases-loop : tie.decreases-loop
+abbrev decreases-loop : tie.decreases-loop-i
 decreases-loop row count i₀ i = count - i
 
-fits : (c : tie.In-loop invariant-loop decreases-loop) → 25 + c.before.loop.i * 26 + 26 ≤ length c.before.before.before.args.row.now
+fits : (c : tie.In-loop-i invariant-loop decreases-loop) → 25 + c.loop-i.i * 26 + 26 ≤ length c.args.row.now
 fits c =
-    let a = c.before.before.before.args in
-    let q = c.before.before.before.requires in
-    row-cell-fits a.p q.0 a.row.now a.count c.before.loop.i q.1 q.2 c.loop-test.true
+    let a = c.args in
+    let q = c.requires in
+    row-cell-fits a.p q.0 a.row.now a.count c.loop-i.i q.1 q.2 c.loop-i-test.true
 
-loop-holds : tie.Need-loop-init invariant-loop decreases-loop
+loop-holds : tie.Need-loop-i-init invariant-loop decreases-loop
 loop-holds c = refl
 
-mul-from : tie.Need-overflow-mul-from invariant-loop decreases-loop
+mul-from : tie.Need-overflow_mul-from invariant-loop decreases-loop
 mul-from c = omega (arith, fits c)
 
-add-from : tie.Need-overflow-add-from invariant-loop decreases-loop
+add-from : tie.Need-overflow_add-from invariant-loop decreases-loop
 add-from c = omega (arith, fits c)
 
-add-to : tie.Need-overflow-add-to invariant-loop decreases-loop
+add-to : tie.Need-overflow_add-to invariant-loop decreases-loop
 add-to c = omega (arith, fits c)
 
-sub-is-cell : tie.Need-overflow-sub-is-cell invariant-loop decreases-loop
+sub-is-cell : tie.Need-slice_bounds-is_cell-count invariant-loop decreases-loop
 sub-is-cell c = omega arith
 
-part-is-cell-start : tie.Need-slice-bounds-is-cell-start invariant-loop decreases-loop
+part-is-cell-start : tie.Need-slice_bounds-is_cell-start invariant-loop decreases-loop
 part-is-cell-start c = omega arith
 
-part-is-cell-end : tie.Need-slice-bounds-is-cell-end invariant-loop decreases-loop
+part-is-cell-end : tie.Need-slice_bounds-is_cell-end invariant-loop decreases-loop
 part-is-cell-end c = fits c
 
-is-cell-requires : tie.Need-is-cell-requires invariant-loop decreases-loop
-is-cell-requires c κs = area-long c.before.before.before.before.args.row.now (25 + c.before.before.loop.i * 26) 26 (fits c.before)
+is-cell-requires : tie.Need-is_cell-requires invariant-loop decreases-loop
+is-cell-requires c κs = area-long c.args.row.now (25 + c.loop-i.i * 26) 26 (fits c.before)
 
-turn : (c : tie.After-is-cell invariant-loop decreases-loop) →
-    let a = c.before.before.before.before.before.args in
-    Turned is_cell (records 26 a.count (drop 25 a.row.now)) c.before.before.before.loop.i c.is-cell.result
+turn : (c : tie.After-is_cell invariant-loop decreases-loop) →
+    let a = c.args in
+    Turned is_cell (records 26 a.count (drop 25 a.row.now)) c.loop-i.i c.is_cell.result
 turn c =
-    let a = c.before.before.before.before.before.args in
-    part-turn a.row.now 25 26 a.count is_cell 26 c.before.before.before.loop.i _ refl c.before.before.before.loop.invariant c.before.before.loop-test.true c.is-cell.ensures
+    let a = c.args in
+    part-turn a.row.now 25 26 a.count is_cell 26 c.loop-i.i _ refl c.loop-i.invariant c.loop-i-test.true c.is_cell.ensures
 
-returns : tie.Need-returns invariant-loop decreases-loop
-returns c = (turn c.before).0 c.if1.true
+returns : tie.Need-returns-then-not-is_cell invariant-loop decreases-loop
+returns c = (turn c.before).0 c.if-not-is_cell.true
 
-add-i : tie.Need-overflow-add-i invariant-loop decreases-loop
-add-i c = next_fits _ _ c.before.before.before.loop-test.true c.before.before.before.before.before.before.ranges.count.fits
+add-i : tie.Need-overflow_add-i invariant-loop decreases-loop
+add-i c = next_fits _ _ c.loop-i-test.true c.ranges.count.fits
 
-loop-less : tie.Need-loop-smaller invariant-loop decreases-loop
-loop-less c = fewer-left _ _ c.before.before.before.loop-test.true
+loop-less : tie.Need-loop-i-smaller invariant-loop decreases-loop
+loop-less c = fewer-left _ _ c.loop-i-test.true
 
-loop-again : tie.Need-loop-preserved invariant-loop decreases-loop
-loop-again c = (turn c.before).1 c.if1.false
+loop-again : tie.Need-loop-i-preserved invariant-loop decreases-loop
+loop-again c = (turn c.before).1 c.if-not-is_cell.false
 
-returns-2 : tie.Need-returns-2 invariant-loop decreases-loop
+returns-2 : tie.Need-returns invariant-loop decreases-loop
 returns-2 c =
-    let a = c.before.before.before.args in
-    part_end a.row.now 25 26 a.count is_cell c.before.loop.i c.before.loop.invariant c.loop-test.false
+    let a = c.args in
+    part_end a.row.now 25 26 a.count is_cell c.loop-i.i c.loop-i.invariant c.loop-i-test.false
 
-pub are-cells-spec : {M : Type 1} → statement M
-are-cells-spec =
+pub are_cells_spec : {M : Type 1} → statement M
+are_cells_spec =
     tie.close
     (tie.spec
     invariant-loop

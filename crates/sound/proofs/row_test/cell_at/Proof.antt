@@ -5,31 +5,31 @@ use borrow.Author.Rules.{rules}
 use Rattle.sound.proofs.row_test.cell_at.Statement.{statement}
 use Rattle.sound.proofs.row_test.cell_at.Tie as tie
 
-mul-from : tie.Need-overflow-mul-from
+mul-from : tie.Need-overflow_mul-from
 mul-from c = search rules
 
-add-from : tie.Need-overflow-add-from
+add-from : tie.Need-overflow_add-from
 add-from c = search rules
 
-sub-read-cell : tie.Need-overflow-sub-read-cell
+sub-read-cell : tie.Need-slice_bounds-read_cell-count
 sub-read-cell c = search rules
 
-part-read-cell-start : tie.Need-slice-bounds-read-cell-start
+part-read-cell-start : tie.Need-slice_bounds-read_cell-start
 part-read-cell-start c = search rules
 
-part-read-cell-end : tie.Need-slice-bounds-read-cell-end
+part-read-cell-end : tie.Need-slice_bounds-read_cell-end
 part-read-cell-end c = search rules
 
-read-cell-requires : tie.Need-read-cell-requires
+read-cell-requires : tie.Need-read_cell-requires
 read-cell-requires c κs = search rules
 
 returns : tie.Need-returns
 returns c =
-    let a = c.before.before.before.args in
+    let a = c.args in
     (rest_read a.row.now (25 + a.i * 26) _ c.read_cell.ensures.0, c.read_cell.ensures.1)
 
-pub cell-at-spec : {M : Type 1} → statement M
-cell-at-spec =
+pub cell_at_spec : {M : Type 1} → statement M
+cell_at_spec =
     tie.close
     (tie.spec
     mul-from

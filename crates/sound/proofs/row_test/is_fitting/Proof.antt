@@ -6,21 +6,21 @@ use borrow.Author.Rules.{rules}
 use Rattle.sound.proofs.row_test.is_fitting.Statement.{statement}
 use Rattle.sound.proofs.row_test.is_fitting.Tie as tie
 
-is-null-requires : tie.Need-is-null-requires
+is-null-requires : tie.Need-is_null-requires
 is-null-requires c κs = search rules
 
-returns : tie.Need-returns
+returns : tie.Need-returns-then-is_null
 returns c =
-    let a = c.before.before.args in
-    fitting-null (column_of a.c) (meaning a.v) _ c.before.is-null.ensures c.if1.true
+    let a = c.args in
+    fitting-null (column_of a.c) (meaning a.v) _ c.is_null.ensures c.if-is_null.true
 
 datatype-requires : tie.Need-datatype-requires
 datatype-requires c κs = search rules
 
-returns-2 : tie.Need-returns-2
+returns-2 : tie.Need-returns
 returns-2 c =
-    let a = c.before.before.before.before.args in
-    fitting-kind (column_of a.c) (meaning a.v) _ _ c.before.before.before.is-null.ensures c.before.before.if1.false c.before.datatype.ensures
+    let a = c.args in
+    fitting-kind (column_of a.c) (meaning a.v) _ _ c.is_null.ensures c.if-is_null.false c.datatype.ensures
 
-pub is-fitting-spec : {M : Type 1} → statement M
-is-fitting-spec = tie.close (tie.spec is-null-requires returns datatype-requires returns-2)
+pub is_fitting_spec : {M : Type 1} → statement M
+is_fitting_spec = tie.close (tie.spec is-null-requires returns datatype-requires returns-2)

@@ -13,77 +13,77 @@ use borrow.Author.Rules.{rules}
 use Rattle.sound.proofs.row_test.is_row_before.Statement.{statement}
 use Rattle.sound.proofs.row_test.is_row_before.Tie as tie
 
-long : (c : tie.After-shared-slice-known3) → 25 ≤ length c.before.before.before.args.b.now
+long : (c : tie.After-shared_slice_known-3-1) → 25 ≤ length c.args.b.now
 unfolding row_width
-long c = omega (arith, c.before.before.before.requires.2)
+long c = omega (arith, c.requires.2)
 
-long-a : (c : tie.After-shared-slice-known3) → 25 ≤ length c.before.before.before.args.a.now
+long-a : (c : tie.After-shared_slice_known-3-1) → 25 ≤ length c.args.a.now
 unfolding row_width
-long-a c = omega (arith, c.before.before.before.requires.1)
+long-a c = omega (arith, c.requires.1)
 
-found : (c : tie.After-table-record) →
-    let a = c.before.before.before.before.before.before.before.before.before.args in
-    Here a.p a.places a.s.now (text_bytes c.before.before.before.before.before.read_name.result) c.table-record.result.now
+found : (c : tie.After-table_record) →
+    let a = c.args in
+    Here a.p a.places a.s.now (text_bytes c.read_name-name.result) c.table_record.result.now
 found c =
-    let a = c.before.before.before.before.before.before.before.before.before.args in
-    found_here a.p a.places a.s.now (text_bytes c.before.before.before.before.before.read_name.result) c.before.before.before.before.get-table.result c.before.before.before.before.get-table.ensures c.before.before.i.given.0.0 c.before.before.i.given.1 c.before.before.before.before.before.before.before.before.before.requires.0 _ c.table-record.ensures _ refl
+    let a = c.args in
+    found_here a.p a.places a.s.now (text_bytes c.read_name-name.result) c.get_table.result c.get_table.ensures c.in-At.i c.in-At.is c.requires.0 _ c.table_record.ensures _ refl
 
-read-name-requires : tie.Need-read-name-requires
+read-name-requires : tie.Need-read_name-name-requires
 read-name-requires c κs = long c
 
-get-table-requires : tie.Need-get-table-requires
+get-table-requires : tie.Need-get_table-requires
 get-table-requires c κs = search rules
 
-enum-known-i : tie.Need-enum-known-i
+enum-known-i : tie.Need-enum_known-i
 enum-known-i c = search rules
 
-enum_told : tie.Need-enum-told
+enum_told : tie.Need-enum_told-1
 enum_told c = search rules
 
-returns : tie.Need-returns
+returns : tie.Need-returns-in_default
 returns c =
-    let a = c.before.before.before.before.before.before.before.args in
-    let q = c.before.before.before.before.before.before.before.requires in
-    first-nowhere a.p a.places a.s.now q.0 a.a.now a.b.now _ c.before.before.before.read_name.ensures.0 (λ i. (c.before.before.before.before.shared-slice-known3.given i).fits) q.2 q.3 (found_none a.p a.places a.s.now (text_bytes c.before.before.before.read_name.result) c.before.before.get-table.result c.before.before.get-table.ensures _ c.before.before.before.read_name.ensures.0 c.enum_told.given.1)
+    let a = c.args in
+    let q = c.requires in
+    first-nowhere a.p a.places a.s.now q.0 a.a.now a.b.now _ c.read_name-name.ensures.0 (λ i. (c.shared_slice_known-3-1.given i).fits) q.2 q.3 (found_none a.p a.places a.s.now (text_bytes c.read_name-name.result) c.get_table.result c.get_table.ensures _ c.read_name-name.ensures.0 c.in_default.is)
 
-table-record-requires : tie.Need-table-record-requires
+table-record-requires : tie.Need-table_record-requires
 table-record-requires c κs =
-    let a = c.before.before.before.before.before.before.before.before.args in
-    (c.before.before.before.before.before.before.before.before.requires.0.catalog.inside, found_below a.p a.places a.s.now (text_bytes c.before.before.before.before.read_name.result) c.before.before.before.get-table.result c.before.before.before.get-table.ensures c.before.i.given.0.0 c.before.i.given.1)
+    let a = c.args in
+    (c.requires.0.catalog.inside, found_below a.p a.places a.s.now (text_bytes c.read_name-name.result) c.get_table.result c.get_table.ensures c.in-At.i c.in-At.is)
 
-key-at-requires : tie.Need-key-at-requires
+key-at-requires : tie.Need-key_at-at-requires
 key-at-requires c κs = ((found c).bytes, (found c).keyed)
 
-sub-read-cell : tie.Need-overflow-sub-read-cell
+sub-read-cell : tie.Need-slice_bounds-read_cell-count
 sub-read-cell c = search rules
 
-part-read-cell-start : tie.Need-slice-bounds-read-cell-start
+part-read-cell-start : tie.Need-slice_bounds-read_cell-start
 part-read-cell-start c = search rules
 
-part-read-cell-end : tie.Need-slice-bounds-read-cell-end
+part-read-cell-end : tie.Need-slice_bounds-read_cell-end
 part-read-cell-end c = search rules
 
-read-cell-requires : tie.Need-read-cell-requires
+read-cell-requires : tie.Need-read_cell-k-requires
 read-cell-requires c κs = search rules
 
-compare-keyed-requires : tie.Need-compare-keyed-requires
+compare-keyed-requires : tie.Need-compare_keyed-requires
 compare-keyed-requires c κs = search rules
 
-enum-told-2 : tie.Need-enum-told-2
+enum-told-2 : tie.Need-enum_told-in-Less
 enum-told-2 c = search rules
 
-returns-2 : tie.Need-returns-2
+returns-2 : tie.Need-returns-in-Less
 returns-2 c =
-    let a = c.before.before.before.before.before.before.before.before.before.before.before.before.before.before.before.args in
-    less-is c.before.before.compare-keyed.result _ (first-order a.p a.places a.s.now c.before.before.before.before.before.before.before.before.before.before.before.before.before.before.before.requires.0 a.a.now a.b.now _ c.before.before.before.before.before.before.before.before.before.before.before.read_name.ensures.0 _ (found c.before.before.before.before.before.before) _ c.before.before.before.before.before.key-at.ensures.0 _ c.before.before.before.read_cell.ensures.0 _ c.before.before.compare-keyed.ensures) c.enum-told2.given.1
+    let a = c.args in
+    less-is c.compare_keyed.result _ (first-order a.p a.places a.s.now c.requires.0 a.a.now a.b.now _ c.read_name-name.ensures.0 _ (found c.before.before.before.before.before) _ c.key_at-at.ensures.0 _ c.read_cell-k.ensures.0 _ c.compare_keyed.ensures) c.in-Less.is
 
-returns-3 : tie.Need-returns-3
+returns-3 : tie.Need-returns-in_default-compare_keyed
 returns-3 c =
-    let a = c.before.before.before.before.before.before.before.before.before.before.before.before.before.before.args in
-    less-not c.before.compare-keyed.result _ (first-order a.p a.places a.s.now c.before.before.before.before.before.before.before.before.before.before.before.before.before.before.requires.0 a.a.now a.b.now _ c.before.before.before.before.before.before.before.before.before.before.read_name.ensures.0 _ (found c.before.before.before.before.before) _ c.before.before.before.before.key-at.ensures.0 _ c.before.before.read_cell.ensures.0 _ c.before.compare-keyed.ensures) (not-less c.before.compare-keyed.result c.match2.keys2)
+    let a = c.args in
+    less-not c.compare_keyed.result _ (first-order a.p a.places a.s.now c.requires.0 a.a.now a.b.now _ c.read_name-name.ensures.0 _ (found c.before.before.before.before.before) _ c.key_at-at.ensures.0 _ c.read_cell-k.ensures.0 _ c.compare_keyed.ensures) (not-less c.compare_keyed.result c.in_default-compare_keyed.in_default-compare_keyed-own.keys2)
 
-pub is-row-before-spec : {M : Type 1} → statement M
-is-row-before-spec =
+pub is_row_before_spec : {M : Type 1} → statement M
+is_row_before_spec =
     tie.close
     (tie.spec
     read-name-requires

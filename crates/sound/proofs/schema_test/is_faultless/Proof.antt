@@ -4,14 +4,14 @@ use borrow.Author.Rules.{rules}
 use Rattle.sound.proofs.schema_test.is_faultless.Statement.{statement}
 use Rattle.sound.proofs.schema_test.is_faultless.Tie as tie
 
-validate-requires : tie.Need-validate-requires
+validate-requires : tie.Need-validate-f-requires
 validate-requires c κs = search rules
 
-is-accepted-requires : tie.Need-is-accepted-requires
+is-accepted-requires : tie.Need-is_accepted-requires
 is-accepted-requires c κs = search rules
 
 returns : tie.Need-returns
-returns c = faultless-is c.before.validate.result _ c.before.validate.ensures c.is-accepted.ensures
+returns c = faultless-is c.validate-f.result _ c.validate-f.ensures c.is_accepted.ensures
 
-pub is-faultless-spec : {M : Type 1} → statement M
-is-faultless-spec = tie.close (tie.spec validate-requires is-accepted-requires returns)
+pub is_faultless_spec : {M : Type 1} → statement M
+is_faultless_spec = tie.close (tie.spec validate-requires is-accepted-requires returns)

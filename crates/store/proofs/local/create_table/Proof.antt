@@ -20,170 +20,170 @@ use Rattle.store.proofs.local.create_table.Statement.{statement}
 use Rattle.store.proofs.local.create_table.Tie as tie
 
 -- where the function began
-abbrev start : tie.After-get-table → tie.Start
-start c = c.before.before.before.before.before
+abbrev start : tie.After-get_table → tie.Start
+start c = c.before
 
 -- the name was read, and a table has it
-known : (c : tie.After-enum-told) →
-    let g = c.before.before in
+known : (c : tie.In-At) →
+    let g = c.before in
     let a = (start g).args in
-    some c.enum_told.given.0.0 ≡ place_of (is_named (text_bytes g.before.before.read_name.result)) (parse a.p a.places a.s.now).tables
-known c = answer-is c.enum_told.given.1 c.before.before.get-table.ensures
+    some c.in-At.field-0 ≡ place_of (is_named (text_bytes g.read_name.result)) (parse a.p a.places a.s.now).tables
+known c = answer-is c.in-At.is c.get_table.ensures
 
 -- or none has
-abbrev searched : tie.Else1 → tie.After-enum-told2
-searched c = c.before.before.before.before
+abbrev searched : tie.Else-not-is_accepted → tie.In_default
+searched c = c.before.before.before
 
-missing : (c : tie.After-enum-told2) →
-    let g = c.before.before in
+missing : (c : tie.In_default) →
+    let g = c.before in
     let a = (start g).args in
-    none ≡ place_of (is_named (text_bytes g.before.before.read_name.result)) (parse a.p a.places a.s.now).tables
-missing c = answer-is c.enum-told2.given.1 c.before.before.get-table.ensures
+    none ≡ place_of (is_named (text_bytes g.read_name.result)) (parse a.p a.places a.s.now).tables
+missing c = answer-is c.in_default.is c.get_table.ensures
 
 -- the schema has no fault
-faultless : (c : tie.Else1) →
-    let a = (start (searched c).before.before).args in
+faultless : (c : tie.Else-not-is_accepted) →
+    let a = (start (searched c).before).args in
     schema_fault (parse a.p a.places a.s.now).tables (read_table a.p a.rec.now) ≡ none
 faultless c =
-    let v = c.before.before.validate in
-    let a = (start (searched c).before.before).args in
-    no-fault (parse a.p a.places a.s.now).tables (read_table a.p a.rec.now) v.result v.ensures (sym c.before.is-accepted.ensures ∙ not-false _ c.if1.false)
+    let v = c.validate-f in
+    let a = (start (searched c).before).args in
+    no-fault (parse a.p a.places a.s.now).tables (read_table a.p a.rec.now) v.result v.ensures (sym c.is_accepted.ensures ∙ not-false _ c.if-not-is_accepted.false)
 
 -- there is room for it, and its place is found
-abbrev passed : tie.Else2 → tie.Else1
+abbrev passed : tie.Else-p-count → tie.Else-not-is_accepted
 passed c = c.before.before.before.before
 
-taken : (c : tie.After-named-before) →
+taken : (c : tie.After-named_before-i) →
     let e = c.before.before.before.before in
-    let g = (searched (passed e)).before.before in
+    let g = (searched (passed e)).before in
     let a = (start g).args in
-    Taken a.p a.places a.s.now a.rec.now (text_bytes g.before.before.read_name.result) e.before.before.table-count.result
-    c.before.before.before.schema-width.result
-    c.named-before.result
+    Taken a.p a.places a.s.now a.rec.now (text_bytes g.read_name.result) e.table-count.result
+    c.schema-width.result
+    c.named_before-i.result
 taken c =
     let e = c.before.before.before.before in
     let d = passed e in
     let u = searched d in
-    let g = u.before.before in
+    let g = u.before in
     let b = start g in
     record {
-      store = b.pre.0;
-      table = b.pre.1;
-      named = g.before.before.read_name.ensures.0;
+      store = b.requires.0;
+      table = b.requires.1;
+      named = g.read_name.ensures.0;
       missing = missing u;
       faultless = faultless d;
-      counted = e.before.before.table-count.ensures;
+      counted = e.table-count.ensures;
       room = e.if2.false;
-      width = c.before.before.before.schema-width.ensures;
-      place = c.named-before.ensures;
+      width = c.schema-width.ensures;
+      place = c.named_before-i.ensures;
     }
 
-read-name-requires : tie.Need-read-name-requires
-read-name-requires c κs = omega (arith, record-least c.before.before.args.p c.before.before.args.rec.now c.before.before.requires.1)
+read-name-requires : tie.Need-read_name-name-requires
+read-name-requires c κs = omega (arith, record-least c.args.p c.args.rec.now c.requires.1)
 
-get-table-requires : tie.Need-get-table-requires
+get-table-requires : tie.Need-get_table-requires
 get-table-requires c κs =
-    let b = c.before.before.before.before in
+    let b = c.before in
     let a = b.args in
-    (store-catalog a.p a.places a.s.now b.requires.0, c.before.read_name.ensures.1)
+    (store-catalog a.p a.places a.s.now b.requires.0, c.read_name.ensures.1)
 
-enum_told : tie.Need-enum-told
+enum_told : tie.Need-enum_told-1
 enum_told c = search rules
 
 refused-requires : tie.Need-refused-requires
 refused-requires c κs = search rules
 
-same_length : tie.Need-same-length
+same_length : tie.Need-shape_of-s-in-At
 same_length c = search rules
 
-returns : tie.Need-returns
+returns : tie.Need-returns-in-At
 returns c =
     let t = c.before in
-    let g = t.before.before in
+    let g = t.before in
     let b = start g in
-    known_kept b.pre.0 b.pre.1 g.before.before.read_name.ensures.0 (known t) _ c.refused.ensures
+    known_kept b.requires.0 b.requires.1 g.read_name.ensures.0 (known t) _ c.refused.ensures
 
-enum-told-2 : tie.Need-enum-told-2
+enum-told-2 : tie.Need-enum_told-in_default
 enum-told-2 c = search rules
 
-validate-requires : tie.Need-validate-requires
+validate-requires : tie.Need-validate-f-requires
 validate-requires c κs =
-    let b = start c.before.before.before in
+    let b = start c.before.before in
     let a = b.args in
-    (store-catalog a.p a.places a.s.now b.pre.0, b.pre.1)
+    (store-catalog a.p a.places a.s.now b.requires.0, b.requires.1)
 
-is-accepted-requires : tie.Need-is-accepted-requires
+is-accepted-requires : tie.Need-is_accepted-requires
 is-accepted-requires c κs = search rules
 
-refused-requires-2 : tie.Need-refused-requires-2
+refused-requires-2 : tie.Need-refused-requires-then-not-is_accepted
 refused-requires-2 c κs = search rules
 
-same-length-2 : tie.Need-same-length-2
+same-length-2 : tie.Need-shape_of-s-then-not-is_accepted
 same-length-2 c = search rules
 
-returns-2 : tie.Need-returns-2
+returns-2 : tie.Need-returns-then-not-is_accepted
 returns-2 c =
     let i = c.before.before in
-    let v = i.before.validate in
-    let u = i.before.before.before in
+    let v = i.validate-f in
+    let u = i.before.before in
     let g = u.before.before in
     let b = start g in
-    faulty-kept b.pre.0 b.pre.1 g.before.before.read_name.ensures.0 (missing u) v.result v.ensures
-    (sym i.is-accepted.ensures ∙ not-true _ c.before.if1.true)
+    faulty-kept b.requires.0 b.requires.1 g.read_name.ensures.0 (missing u) v.result v.ensures
+    (sym i.is_accepted.ensures ∙ not-true _ c.if-not-is_accepted.true)
     _
-    c.refused2.ensures
+    c.refused-then-not-is_accepted.ensures
 
-table-count-requires : tie.Need-table-count-requires
+table-count-requires : tie.Need-table_count-count-requires
 table-count-requires c κs =
-    let b = start (searched c.before).before.before in
+    let b = start (searched c.before).before in
     let a = b.args in
-    laid-header _ _ _ _ (store_laid a.p a.places a.s.now b.pre.0)
+    laid-header _ _ _ _ (store_laid a.p a.places a.s.now b.requires.0)
 
-refused-requires-3 : tie.Need-refused-requires-3
+refused-requires-3 : tie.Need-refused-requires-then-p-count
 refused-requires-3 c κs = search rules
 
-same-length-3 : tie.Need-same-length-3
+same-length-3 : tie.Need-shape_of-s-then-p-count
 same-length-3 c = search rules
 
-returns-3 : tie.Need-returns-3
+returns-3 : tie.Need-returns-then-p-count
 returns-3 c =
     let k = c.before.before.before in
     let d = k.before.before in
     let u = searched d in
-    let g = u.before.before in
+    let g = u.before in
     let b = start g in
-    full-kept b.pre.0 b.pre.1 g.before.before.read_name.ensures.0 (missing u) (faultless d) k.table-count.ensures c.before.if2.true _
-    c.refused3.ensures
+    full-kept b.requires.0 b.requires.1 g.read_name.ensures.0 (missing u) (faultless d) k.table_count-count.ensures c.if-p-count.true _
+    c.refused-then-p-count.ensures
 
-schema-width-requires : tie.Need-schema-width-requires
-schema-width-requires c κs = (start (searched (passed c)).before.before).requires.0.coded.known
+schema-width-requires : tie.Need-schema_width-width-requires
+schema-width-requires c κs = (start (searched (passed c)).before).requires.0.coded.known
 
-sub-named-before : tie.Need-overflow-sub-named-before
+sub-named-before : tie.Need-slice_bounds-named_before-count
 sub-named-before c =
-    let b = start (searched (passed c.before)).before.before in
+    let b = start (searched (passed c.before)).before in
     let a = b.args in
-    laid-header _ _ _ _ (store_laid a.p a.places a.s.now b.pre.0)
+    laid-header _ _ _ _ (store_laid a.p a.places a.s.now b.requires.0)
 
-part-named-before-start : tie.Need-slice-bounds-named-before-start
+part-named-before-start : tie.Need-slice_bounds-named_before-start
 part-named-before-start c =
-    let b = start (searched (passed c.before.before)).before.before in
+    let b = start (searched (passed c.before.before)).before in
     let a = b.args in
-    laid-header _ _ _ _ (store_laid a.p a.places a.s.now b.pre.0)
+    laid-header _ _ _ _ (store_laid a.p a.places a.s.now b.requires.0)
 
-part-named-before-end : tie.Need-slice-bounds-named-before-end
+part-named-before-end : tie.Need-slice_bounds-named_before-end
 part-named-before-end c = search rules
 
-named-before-requires : tie.Need-named-before-requires
+named-before-requires : tie.Need-named_before-i-requires
 named-before-requires c κs =
-    let w = c.before.before.schema-width in
+    let w = c.schema-width in
     let e = c.before.before.before in
-    let k = e.before.before.table-count in
-    let g = (searched (passed e)).before.before in
-    let n = g.before.before.read_name in
+    let k = e.table-count in
+    let g = (searched (passed e)).before in
+    let n = g.read_name in
     let b = start g in
     let a = b.args in (
       (omega (arith, w.ensures, name-within a.p Schemas), n.ensures.1),
-      run-searched a.p a.places Schemas (text_bytes n.result) a.s.now (schemas-in a.p a.places a.s.now b.pre.0 (text_bytes n.result)) 12
+      run-searched a.p a.places Schemas (text_bytes n.result) a.s.now (schemas-in a.p a.places a.s.now b.requires.0 (text_bytes n.result)) 12
           w.result
           a.p.tables
           refl
@@ -193,28 +193,28 @@ named-before-requires c κs =
           k.ensures,
     )
 
-open-counted-requires : tie.Need-open-counted-requires
+open-counted-requires : tie.Need-open_counted-requires
 open-counted-requires c κs = table-grows (taken c.before)
 
-write-record-requires : tie.Need-write-record-requires
+write-record-requires : tie.Need-write_record-requires
 write-record-requires c κs =
     let o = c.before.before.before in
-    record-fits (taken o.before.before) o.open-counted.ensures
+    record-fits (taken o.before.before) o.open_counted.ensures
 
 accepted-requires : tie.Need-accepted-requires
 accepted-requires c κs = search rules
 
-same-length-4 : tie.Need-same-length-4
+same-length-4 : tie.Need-shape_of-s
 same-length-4 c = search rules
 
-returns-4 : tie.Need-returns-4
+returns-4 : tie.Need-returns
 returns-4 c =
     let w = c.before.before.before in
     let o = w.before.before.before.before in
-    table-created (taken o.before.before) o.open-counted.ensures w.write-record.ensures _ c.accepted.ensures
+    table-created (taken o.before.before) o.open_counted.ensures w.write_record.ensures _ c.accepted.ensures
 
-pub create-table-spec : {M : Type 1} → statement M
-create-table-spec =
+pub create_table_spec : {M : Type 1} → statement M
+create_table_spec =
     tie.close
     (tie.spec
     read-name-requires

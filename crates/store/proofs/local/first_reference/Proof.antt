@@ -12,94 +12,94 @@ use Rattle.laid.proofs.Searching.{same-is, not_same}
 use Rattle.store.proofs.local.first_reference.Statement.{statement}
 use Rattle.store.proofs.local.first_reference.Tie as tie
 
-abbrev invariant-loop : tie.invariant-loop
+abbrev invariant-loop : tie.invariant-loop-j
 invariant-loop rec p name count j₀ j = first_reference (text_bytes name) 0 (columns_of p rec) ≡ first_reference (text_bytes name) j (drop j (columns_of p rec))
 
-abbrev decreases-loop : tie.decreases-loop
+abbrev decreases-loop : tie.decreases-loop-j
 decreases-loop rec p name count j₀ j = count - j
 
 -- a table has few columns
 few : (b : tie.Start invariant-loop decreases-loop) → get_or b.args.rec.now 26 0 ≤ 16
 few b = omega (arith, count-byte b.args.p b.args.rec.now, columns-few _ _ b.requires.0, b.requires.0.coded.known.columns)
 
-shared-slice-read-count : tie.Need-shared-slice-read-count invariant-loop decreases-loop
-shared-slice-read-count c = omega (arith, record-least _ _ c.before.before.requires.0)
+shared-slice-read-count : tie.Need-bounds-rec-26 invariant-loop decreases-loop
+shared-slice-read-count c = omega (arith, record-least _ _ c.requires.0)
 
-cast-count : tie.Need-overflow-cast-count invariant-loop decreases-loop
-cast-count c = omega (arith, c.shared-slice-known2.given 26)
+cast-count : tie.Need-overflow_cast-count invariant-loop decreases-loop
+cast-count c = omega (arith, c.shared_slice_known-2-1.given 26)
 
-loop-holds : tie.Need-loop-init invariant-loop decreases-loop
+loop-holds : tie.Need-loop-j-init invariant-loop decreases-loop
 loop-holds c = refl
 
-read-column-requires : tie.Need-read-column-requires invariant-loop decreases-loop
+read-column-requires : tie.Need-read_column-c-requires invariant-loop decreases-loop
 read-column-requires c κs =
     let b = c.before.before.before.before in
-    (b.requires.0, omega (arith, c.loop-test.true, count-byte b.args.p b.args.rec.now, columns-few _ _ b.requires.0))
+    (b.requires.0, omega (arith, c.loop-j-test.true, count-byte b.args.p b.args.rec.now, columns-few _ _ b.requires.0))
 
-compare-texts-requires : tie.Need-compare-texts-requires invariant-loop decreases-loop
-compare-texts-requires c κs = (c.before.before.before.before.before.before.requires.1, c.before.read-column.ensures.proper.reference)
+compare-texts-requires : tie.Need-compare_texts-requires invariant-loop decreases-loop
+compare-texts-requires c κs = (c.requires.1, c.read_column-c.ensures.proper.reference)
 
-enum_told : tie.Need-enum-told invariant-loop decreases-loop
+enum_told : tie.Need-enum_told-1 invariant-loop decreases-loop
 enum_told c = search rules
 
-returns : tie.Need-returns invariant-loop decreases-loop
+returns : tie.Need-returns-in-Same invariant-loop decreases-loop
 returns c =
-    let asked = c.before.before in
+    let asked = c.before in
     let then = asked.before in
     let turn = then.before.before in
     let b = turn.before.before.before.before in
-    column-refers _ _ b.requires.0 _ _ turn.before.loop.invariant (omega (arith, turn.loop-test.true, count-byte b.args.p b.args.rec.now))
-    then.before.read-column.result
-    then.before.read-column.ensures
-    then.if1.true
-    (same-is asked.compare-texts.result _ asked.compare-texts.ensures c.enum_told.given.1)
+    column-refers _ _ b.requires.0 _ _ turn.loop-j.invariant (omega (arith, turn.loop-j-test.true, count-byte b.args.p b.args.rec.now))
+    then.read_column-c.result
+    then.read_column-c.ensures
+    then.if-c.true
+    (same-is asked.compare_texts.result _ asked.compare_texts.ensures c.in-Same.is)
 
-add-j : tie.Need-overflow-add-j invariant-loop decreases-loop
+add-j : tie.Need-overflow_add-j invariant-loop decreases-loop
 add-j c =
     let turn = c.before.before.before.before in
     let b = turn.before.before.before.before in
-    omega (arith, turn.loop-test.true, few b)
+    omega (arith, turn.loop-j-test.true, few b)
 
-loop-less : tie.Need-loop-smaller invariant-loop decreases-loop
+loop-less : tie.Need-loop-j-smaller-in_default invariant-loop decreases-loop
 loop-less c = omega arith
 
-loop-again : tie.Need-loop-preserved invariant-loop decreases-loop
+loop-again : tie.Need-loop-j-preserved-in_default invariant-loop decreases-loop
 loop-again c =
     let asked = c.before in
     let then = asked.before in
     let turn = then.before.before in
     let b = turn.before.before.before.before in
-    column-other _ _ b.requires.0 _ _ turn.before.loop.invariant (omega (arith, turn.loop-test.true, count-byte b.args.p b.args.rec.now))
-    then.before.read-column.result
-    then.before.read-column.ensures
-    then.if1.true
-    (not_same asked.compare-texts.result _ asked.compare-texts.ensures c.match.keys2)
+    column-other _ _ b.requires.0 _ _ turn.loop-j.invariant (omega (arith, turn.loop-j-test.true, count-byte b.args.p b.args.rec.now))
+    then.read_column-c.result
+    then.read_column-c.ensures
+    then.if-c.true
+    (not_same asked.compare_texts.result _ asked.compare_texts.ensures c.in_default.in_default-own.keys2)
 
-add-j-2 : tie.Need-overflow-add-j-2 invariant-loop decreases-loop
+add-j-2 : tie.Need-overflow_add-j-else-c invariant-loop decreases-loop
 add-j-2 c =
     let turn = c.before.before in
     let b = turn.before.before.before.before in
-    omega (arith, turn.loop-test.true, few b)
+    omega (arith, turn.loop-j-test.true, few b)
 
-loop-less-2 : tie.Need-loop-smaller-2 invariant-loop decreases-loop
+loop-less-2 : tie.Need-loop-j-smaller invariant-loop decreases-loop
 loop-less-2 c = omega arith
 
-loop-again-2 : tie.Need-loop-preserved-2 invariant-loop decreases-loop
+loop-again-2 : tie.Need-loop-j-preserved invariant-loop decreases-loop
 loop-again-2 c =
     let turn = c.before.before in
     let b = turn.before.before.before.before in
-    column-without _ _ b.requires.0 _ _ turn.before.loop.invariant (omega (arith, turn.loop-test.true, count-byte b.args.p b.args.rec.now))
-    c.before.read-column.result
-    c.before.read-column.ensures
-    c.if1.false
+    column-without _ _ b.requires.0 _ _ turn.loop-j.invariant (omega (arith, turn.loop-j-test.true, count-byte b.args.p b.args.rec.now))
+    c.read_column-c.result
+    c.read_column-c.ensures
+    c.if-c.false
 
-returns-2 : tie.Need-returns-2 invariant-loop decreases-loop
+returns-2 : tie.Need-returns invariant-loop decreases-loop
 returns-2 c =
     let b = c.before.before.before.before in
-    no-reference _ _ _ c.before.loop.invariant (omega (arith, c.loop-test.false, count-byte b.args.p b.args.rec.now))
+    no-reference _ _ _ c.loop-j.invariant (omega (arith, c.loop-j-test.false, count-byte b.args.p b.args.rec.now))
 
-pub first-reference-spec : {M : Type 1} → statement M
-first-reference-spec =
+pub first_reference_spec : {M : Type 1} → statement M
+first_reference_spec =
     tie.close
     (tie.spec
     invariant-loop

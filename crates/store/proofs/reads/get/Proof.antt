@@ -19,66 +19,66 @@ use Rattle.store.proofs.reads.get.Statement.{statement}
 use Rattle.store.proofs.reads.get.Tie as tie
 
 -- where the function began, and the place that is found
-abbrev start : tie.After-t → tie.Start
+abbrev start : tie.In-At-2 → tie.Start
 start c = c.before.before.before.before
 
-place : (c : tie.After-t) →
+place : (c : tie.In-At-2) →
     let a = (start c).args in
-    some c.t.given.0.0 ≡ place_of (is_named (text_bytes a.name)) (parse a.p a.places a.s.now).tables
-place c = answer-is c.t.given.1 c.before.before.get-table.ensures
+    some c.t-1.given.0.0 ≡ place_of (is_named (text_bytes a.name)) (parse a.p a.places a.s.now).tables
+place c = answer-is c.t-1.given.1 c.get_table.ensures
 
-known : (c : tie.After-t) →
+known : (c : tie.In-At-2) →
     let a = (start c).args in
-    c.t.given.0.0 < length (parse a.p a.places a.s.now).tables
+    c.t-1.given.0.0 < length (parse a.p a.places a.s.now).tables
 known c =
     let a = (start c).args in
-    table-known a.p a.places a.s.now (text_bytes a.name) c.t.given.0.0 (place c)
+    table-known a.p a.places a.s.now (text_bytes a.name) c.t-1.given.0.0 (place c)
 
-get-table-requires : tie.Need-get-table-requires
+get-table-requires : tie.Need-get_table-requires
 get-table-requires c κs =
     let b = c.before in
     (held-catalog b.args.p b.args.places b.args.s.now b.requires.0, b.requires.1)
 
-enum_told : tie.Need-enum-told
+enum_told : tie.Need-enum_told-1
 enum_told c = search rules
 
-enum-known-t : tie.Need-enum-known-t
+enum-known-t : tie.Need-enum_known-t
 enum-known-t c = search rules
 
-table-record-requires : tie.Need-table-record-requires
+table-record-requires : tie.Need-table_record-requires
 table-record-requires c κs =
-    let f = c.before in
-    record-asked (start f).requires.0 f.t.given.0.0 (known f)
+    let f = c in
+    record-asked (start f).requires.0 f.in-At.t (known f)
 
-key-column-requires : tie.Need-key-column-requires
+key-column-requires : tie.Need-key_column-column-requires
 key-column-requires c κs =
-    let f = c.before.before in
-    key_fits (start f).requires.0 f.t.given.0.0 (known f) c.table-record.ensures
+    let f = c.before in
+    key_fits (start f).requires.0 f.in-At.t (known f) c.table_record.ensures
 
-find-row-requires : tie.Need-find-row-requires
+find-row-requires : tie.Need-find_row-requires
 find-row-requires c κs =
-    let f = c.before.before.before in
+    let f = c.before.before in
     let b = start f in
     let a = b.args in
-    let t = f.t.given.0.0 in (
-      b.pre.0,
-      key-of-found a.p a.places a.s.now b.pre.0 t (table-among a.p a.places a.s.now t (known f)) c.key-column.result
-          (c.key-column.ensures ∙ ap (λ (r : List ℕ). get_or r name_width 0) c.before.table-record.ensures)
+    let t = f.in-At.t in (
+      b.requires.0,
+      key-of-found a.p a.places a.s.now b.requires.0 t (table-among a.p a.places a.s.now t (known f)) c.key_column-column.result
+          (c.key_column-column.ensures ∙ ap (λ (r : List ℕ). get_or r name_width 0) c.table_record.ensures)
           (text_bytes a.name)
           (place f),
-      b.pre.1,
-      b.pre.2,
+      b.requires.1,
+      b.requires.2,
     )
 
-returns : tie.Need-returns
+returns : tie.Need-returns-in-Nothing
 returns c =
-    let g = c.before.before in
+    let g = c.before in
     let b = g.before.before in
     let a = b.args in
-    key-nowhere a.p a.places a.s.now b.requires.0 (text_bytes a.name) (meaning a.key) (answer-is c.enum_told.given.1 g.get-table.ensures)
+    key-nowhere a.p a.places a.s.now b.requires.0 (text_bytes a.name) (meaning a.key) (answer-is c.in-Nothing.is g.get_table.ensures)
 
-returns-2 : tie.Need-returns-2
-returns-2 c = c.find-row.ensures
+returns-2 : tie.Need-returns-in-At
+returns-2 c = c.find_row.ensures
 
 pub get_spec : {M : Type 1} → statement M
 get_spec =

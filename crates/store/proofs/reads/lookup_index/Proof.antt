@@ -15,83 +15,83 @@ use Rattle.store.proofs.reads.lookup_index.Statement.{statement}
 use Rattle.store.proofs.reads.lookup_index.Tie as tie
 
 -- the place that is found
-place : (c : tie.After-t) →
-    let a = c.before.before.before.before.before.args in
-    some c.t.given.0.0 ≡ place_of (is_named (text_bytes a.name)) (parse a.p a.places a.s.now).tables
-place c = answer-is c.t.given.1 c.before.before.get-table.ensures
+place : (c : tie.In-At-2) →
+    let a = c.args in
+    some c.t-1.given.0.0 ≡ place_of (is_named (text_bytes a.name)) (parse a.p a.places a.s.now).tables
+place c = answer-is c.t-1.given.1 c.get_table.ensures
 
-get-table-requires : tie.Need-get-table-requires
+get-table-requires : tie.Need-get_table-requires
 get-table-requires c κs =
     let b = c.before.before in
     (held-catalog b.args.p b.args.places b.args.s.now b.requires.0, b.requires.1)
 
-enum-known-t : tie.Need-enum-known-t
+enum-known-t : tie.Need-enum_known-t
 enum-known-t c = search rules
 
-enum_told : tie.Need-enum-told
+enum_told : tie.Need-enum_told-1
 enum_told c = search rules
 
 refused-requires : tie.Need-refused-requires
 refused-requires c κs = search rules
 
-returns : tie.Need-returns
+returns : tie.Need-returns-in_default
 returns c =
-    let g = c.before.before.before in
-    let a = g.before.before.before.args in
+    let g = c.before.before in
+    let a = g.args in
     c.refused.ensures
     ∙ lookup-unknown a.p a.places a.s.now (text_bytes a.name) a.column (values_from a.rec.now a.count a.at)
-    (answer-is c.before.enum_told.given.1 g.get-table.ensures)
+    (answer-is c.in_default.is g.get_table.ensures)
 
-is-indexed-requires : tie.Need-is-indexed-requires
+is-indexed-requires : tie.Need-is_indexed-requires
 is-indexed-requires c κs =
-    let f = c.before in
-    let b = f.before.before.before.before.before in
+    let f = c in
+    let b = f.before.before.before.before in
     let a = b.args in
-    (b.requires.0, table-known a.p a.places a.s.now (text_bytes a.name) f.t.given.0.0 (place f))
+    (b.requires.0, table-known a.p a.places a.s.now (text_bytes a.name) f.in-At.t (place f))
 
-refused-requires-2 : tie.Need-refused-requires-2
+refused-requires-2 : tie.Need-refused-requires-then-not-is_indexed
 refused-requires-2 c κs = search rules
 
-returns-2 : tie.Need-returns-2
+returns-2 : tie.Need-returns-then-not-is_indexed
 returns-2 c =
-    let x = c.before.before.is-indexed in
-    let f = c.before.before.before.before in
-    let a = f.before.before.before.before.before.args in
-    c.refused2.ensures
-    ∙ lookup-refused a.p a.places a.s.now (text_bytes a.name) f.t.given.0.0 (place f) a.column x.result x.ensures
-    (values_from a.rec.now a.count a.at)
-    (not-true x.result c.before.if1.true)
-
-key-count-requires : tie.Need-key-count-requires
-key-count-requires c κs =
-    let x = c.before.is-indexed in
+    let x = c.is_indexed in
     let f = c.before.before.before in
-    let b = f.before.before.before.before.before in
+    let a = f.args in
+    c.refused-then-not-is_indexed.ensures
+    ∙ lookup-refused a.p a.places a.s.now (text_bytes a.name) f.in-At.t (place f) a.column x.result x.ensures
+    (values_from a.rec.now a.count a.at)
+    (not-true x.result c.if-not-is_indexed.true)
+
+key-count-requires : tie.Need-key_count-requires
+key-count-requires c κs =
+    let x = c.is_indexed in
+    let f = c.before.before in
+    let b = f.before.before.before.before in
     let a = b.args in (
       b.requires.0,
       b.requires.1,
-      column-indexed a.p a.places a.s.now (text_bytes a.name) f.t.given.0.0 (place f) a.column x.result x.ensures
-          (not-false x.result c.if1.false),
+      column-indexed a.p a.places a.s.now (text_bytes a.name) f.in-At.t (place f) a.column x.result x.ensures
+          (not-false x.result c.if-not-is_indexed.false),
     )
 
 accepted-requires : tie.Need-accepted-requires
 accepted-requires c κs = search rules
 
-returns-3 : tie.Need-returns-3
+returns-3 : tie.Need-returns
 returns-3 c =
-    let k = c.before.key-count in
-    let x = c.before.before.before.is-indexed in
-    let f = c.before.before.before.before.before in
-    let a = f.before.before.before.before.before.args in
+    let k = c.key_count in
+    let x = c.is_indexed in
+    let f = c.before.before.before.before in
+    let a = f.args in
     c.accepted.ensures
-    ∙ lookup-counted a.p a.places a.s.now (text_bytes a.name) f.t.given.0.0 (place f) a.column x.result x.ensures
+    ∙ lookup-counted a.p a.places a.s.now (text_bytes a.name) f.in-At.t (place f) a.column x.result x.ensures
     (values_from a.rec.now a.count a.at)
-    (not-false x.result c.before.before.if1.false)
+    (not-false x.result c.if-not-is_indexed.false)
     k.result
     k.ensures
 
-pub lookup-index-spec : {M : Type 1} → statement M
-lookup-index-spec =
+pub lookup_index_spec : {M : Type 1} → statement M
+lookup_index_spec =
     tie.close
     (tie.spec
     get-table-requires

@@ -22,106 +22,106 @@ abbrev keys : tie.Start → List Value
 keys b = values_from b.args.rec.now b.args.count b.args.at
 
 -- the table at place t has the name
-known : (c : tie.After-t) →
-    let a = c.before.before.before.before.before.before.before.args in
-    some c.t.given.0.0 ≡ place_of (is_named (text_bytes a.name)) (parse a.p a.places a.s.now).tables
-known c = answer-is c.t.given.1 c.before.before.get-table.ensures
+known : (c : tie.In-At-2) →
+    let a = c.before.args in
+    some c.t-1.given.0.0 ≡ place_of (is_named (text_bytes a.name)) (parse a.p a.places a.s.now).tables
+known c = answer-is c.t-1.given.1 c.get_table.ensures
 
-room : (c : tie.Else2) →
-    let b = c.before.before.before.before.before.before.before.before.before.before.before.before.before.before.before in
-    RoomFor b.args.p b.args.places b.args.s.now b.args.j.now c.before.before.before.before.before.before.before.before.t.given.0.0 (keys b)
-room c = sym c.before.lacks-places.ensures ∙ c.if2.false
-
-get-table-requires : tie.Need-get-table-requires
-get-table-requires c κs =
+room : (c : tie.Else-lacks_places) →
     let b = c.before.before.before.before in
+    RoomFor b.args.p b.args.places b.args.s.now b.args.j.now c.t.given.0.0 (keys b)
+room c = sym c.lacks_places.ensures ∙ c.if-lacks_places.false
+
+get-table-requires : tie.Need-get_table-requires
+get-table-requires c κs =
+    let b = c.before in
     let a = b.args in
     (store-catalog a.p a.places a.s.now b.requires.0.store, b.requires.1)
 
-enum-known-t : tie.Need-enum-known-t
+enum-known-t : tie.Need-enum_known-t
 enum-known-t c = search rules
 
-enum_told : tie.Need-enum-told
+enum_told : tie.Need-enum_told-1
 enum_told c = search rules
 
 refused-requires : tie.Need-refused-requires
 refused-requires c κs = search rules
 
-same_length : tie.Need-same-length
+same_length : tie.Need-shape_of-s-in_default
 same_length c = search rules
 
-returns : tie.Need-returns
+returns : tie.Need-returns-in_default
 returns c =
-    let b = c.before.before.before.before.before.before.before.before in
-    delete-missed b.requires.0 (text_bytes b.args.name) (keys b) (answer-is c.before.enum_told.given.1 c.before.before.before.get-table.ensures) c.refused.result
+    let b = c.before in
+    delete-missed b.requires.0 (text_bytes b.args.name) (keys b) (answer-is c.in_default.is c.get_table.ensures) c.refused.result
     c.refused.ensures
 
-row-references-requires : tie.Need-row-references-requires
+row-references-requires : tie.Need-row_references-r-requires
 row-references-requires c κs =
-    let b = c.before.before.before.before.before.before.before.before.before in
+    let b = c.before.before in
     ((laid-books b.requires.0).store, b.requires.1)
 
 carrying-requires : tie.Need-carrying-requires
 carrying-requires c κs = search rules
 
-same-length-2 : tie.Need-same-length-2
+same-length-2 : tie.Need-shape_of-s-then-r
 same-length-2 c = search rules
 
-returns-2 : tie.Need-returns-2
+returns-2 : tie.Need-returns-then-r
 returns-2 c =
-    let b = c.before.before.before.before.before.before.before.before.before.before.before.before.before in
-    let r = c.before.before.before.row-references in
-    delete-held b.requires.0 (text_bytes b.args.name) (keys b) c.before.before.before.before.before.before.t.given.0.0 (known c.before.before.before.before.before.before) r.result r.ensures.0 c.before.before.if1.true c.carrying.result
+    let b = c.before in
+    let r = c.row_references-r in
+    delete-held b.requires.0 (text_bytes b.args.name) (keys b) c.in-At.t (known c.before.before.before.before.before) r.result r.ensures.0 c.if-r.true c.carrying.result
     c.carrying.ensures
 
-lacks-places-requires : tie.Need-lacks-places-requires
+lacks-places-requires : tie.Need-lacks_places-requires
 lacks-places-requires c κs =
-    let b = c.before.before.before.before.before.before.before.before.before.before.before.before.before in
+    let b = c.before.before.before.before in
     let a = b.args in
-    (laid-books b.requires.0, table-known a.p a.places a.s.now (text_bytes a.name) c.before.before.before.before.before.before.t.given.0.0 (known c.before.before.before.before.before.before))
+    (laid-books b.requires.0, table-known a.p a.places a.s.now (text_bytes a.name) c.t.given.0.0 (known c.before.before.before.before))
 
-refused-requires-2 : tie.Need-refused-requires-2
+refused-requires-2 : tie.Need-refused-requires-then-lacks_places
 refused-requires-2 c κs = search rules
 
-same-length-3 : tie.Need-same-length-3
+same-length-3 : tie.Need-shape_of-s-then-lacks_places
 same-length-3 c = search rules
 
-same-length-4 : tie.Need-same-length-4
+same-length-4 : tie.Need-shape_of-j-then-lacks_places
 same-length-4 c = search rules
 
-returns-3 : tie.Need-returns-3
+returns-3 : tie.Need-returns-then-lacks_places
 returns-3 c =
-    let b = c.before.before.before.before.before.before.before.before.before.before.before.before.before.before.before.before in
-    let r = c.before.before.before.before.before.before.row-references in
-    delete-lacks b.requires.0 (text_bytes b.args.name) (keys b) c.before.before.before.before.before.before.before.before.before.t.given.0.0 (known c.before.before.before.before.before.before.before.before.before) r.result r.ensures.0 c.before.before.before.before.before.if1.false
-    (sym c.before.before.lacks-places.ensures ∙ c.before.if2.true) c.refused2.result
-    c.refused2.ensures
+    let b = c.before.before.before.before in
+    let r = c.row-references in
+    delete-lacks b.requires.0 (text_bytes b.args.name) (keys b) c.t.given.0.0 (known c.before.before.before.before.before.before.before) r.result r.ensures.0 c.if1.false
+    (sym c.lacks_places.ensures ∙ c.if-lacks_places.true) c.refused-then-lacks_places.result
+    c.refused-then-lacks_places.ensures
 
-remove-keys-requires : tie.Need-remove-keys-requires
+remove-keys-requires : tie.Need-remove_keys-requires
 remove-keys-requires c κs =
-    let b = c.before.before.before.before.before.before.before.before.before.before.before.before.before.before.before.before.before in
+    let b = c.before.before.before.before in
     let a = b.args in
-    (laid-books b.requires.0, table-known a.p a.places a.s.now (text_bytes a.name) c.before.before.before.before.before.before.before.before.before.before.t.given.0.0 (known c.before.before.before.before.before.before.before.before.before.before), room c.before.before)
+    (laid-books b.requires.0, table-known a.p a.places a.s.now (text_bytes a.name) c.t.given.0.0 (known c.before.before.before.before.before.before.before.before), room c.before.before)
 
 accepted-requires : tie.Need-accepted-requires
 accepted-requires c κs = search rules
 
-same-length-5 : tie.Need-same-length-5
+same-length-5 : tie.Need-shape_of-s
 same-length-5 c = search rules
 
-same-length-6 : tie.Need-same-length-6
+same-length-6 : tie.Need-shape_of-j
 same-length-6 c = search rules
 
-returns-4 : tie.Need-returns-4
+returns-4 : tie.Need-returns
 returns-4 c =
-    let b = c.before.before.before.before.before.before.before.before.before.before.before.before.before.before.before.before.before.before.before.before.before.before.before in
-    let r = c.before.before.before.before.before.before.before.before.before.before.before.before.before.row-references in
-    delete-goes b.requires.0 (text_bytes b.args.name) (keys b) c.before.before.before.before.before.before.before.before.before.before.before.before.before.before.before.before.t.given.0.0 (known c.before.before.before.before.before.before.before.before.before.before.before.before.before.before.before.before) r.result r.ensures.0 c.before.before.before.before.before.before.before.before.before.before.before.before.if1.false (room c.before.before.before.before.before.before.before.before)
-    c.before.before.before.before.before.remove-keys.ensures c.accepted.result
+    let b = c.before.before.before.before in
+    let r = c.row-references in
+    delete-goes b.requires.0 (text_bytes b.args.name) (keys b) c.t.given.0.0 (known c.before.before.before.before.before.before.before.before.before.before.before.before.before.before) r.result r.ensures.0 c.if1.false (room c.before.before.before.before.before.before.before.before)
+    c.remove_keys.ensures c.accepted.result
     c.accepted.ensures
 
-pub delete-spec : {M : Type 1} → statement M
-delete-spec =
+pub delete_spec : {M : Type 1} → statement M
+delete_spec =
     tie.close
     (tie.spec
     get-table-requires

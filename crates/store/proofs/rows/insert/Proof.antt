@@ -16,86 +16,86 @@ use Rattle.store.proofs.rows.insert.Statement.{statement}
 use Rattle.store.proofs.rows.insert.Tie as tie
 
 -- the row passes, and there is a place
-free : (c : tie.Else1) →
-    let a = c.before.before.before.before.before.before.args in
+free : (c : tie.Else-not-is_accepted) →
+    let a = c.before.args in
     row_fault a.p a.places (parse a.p a.places a.s.now) (table_in a.p a.places a.s.now a.t) false (cells_of a.row) ≡ none
 free c =
-    let b = c.before.before.before.before.before.before in
+    let b = c.before in
     let i = c.before in
-    passes b.requires.0 b.requires.1 false c.before.before.validate-row.ensures (sym i.is-accepted.ensures ∙ not-false _ c.if1.false)
+    passes b.requires.0 b.requires.1 false c.validate_row-k.ensures (sym i.is_accepted.ensures ∙ not-false _ c.if-not-is_accepted.false)
 
-room : (c : tie.Else2) →
-    let a = c.before.before.before.before.before.before.before.before.before.args in
+room : (c : tie.Else-not-has_places) →
+    let a = c.before.before.args in
     lacks (books_of a.p a.places a.s.now a.j.now).journal 1 ≡ false
-room c = has_room (laid-books c.before.before.before.before.before.before.before.before.before.requires.0) 1 c.before.has-places.ensures (not-false _ c.if2.false)
+room c = has_room (laid-books c.before.before.requires.0) 1 c.has_places.ensures (not-false _ c.if-not-has_places.false)
 
-validate-row-requires : tie.Need-validate-row-requires
-validate-row-requires c κs = let b = c.before.before.before in (b.requires.0.store, b.requires.1)
+validate-row-requires : tie.Need-validate_row-k-requires
+validate-row-requires c κs = let b = c.before in (b.requires.0.store, b.requires.1)
 
-is-accepted-requires : tie.Need-is-accepted-requires
+is-accepted-requires : tie.Need-is_accepted-requires
 is-accepted-requires c κs = search rules
 
 refused-requires : tie.Need-refused-requires
 refused-requires c κs = search rules
 
-same_length : tie.Need-same-length
+same_length : tie.Need-shape_of-s-then-not-is_accepted
 same_length c = search rules
 
-returns : tie.Need-returns
+returns : tie.Need-returns-then-not-is_accepted
 returns c =
-    let b = c.before.before.before.before.before.before.before in
+    let b = c.before in
     let i = c.before.before in
-    insert-refused b.requires.0 b.requires.1 c.before.before.before.validate-row.ensures (sym i.is-accepted.ensures ∙ not-true _ c.before.if1.true) b.args.n
+    insert-refused b.requires.0 b.requires.1 c.validate_row-k.ensures (sym i.is_accepted.ensures ∙ not-true _ c.if-not-is_accepted.true) b.args.n
     c.refused.result
     c.refused.ensures
 
-has-places-requires : tie.Need-has-places-requires
-has-places-requires c κs = paged-of (laid-books c.before.before.before.before.before.before.before.requires.0)
+has-places-requires : tie.Need-has_places-requires
+has-places-requires c κs = paged-of (laid-books c.before.before.requires.0)
 
-refused-requires-2 : tie.Need-refused-requires-2
+refused-requires-2 : tie.Need-refused-requires-then-not-has_places
 refused-requires-2 c κs = search rules
 
-same-length-2 : tie.Need-same-length-2
+same-length-2 : tie.Need-shape_of-s-then-not-has_places
 same-length-2 c = search rules
 
-same-length-3 : tie.Need-same-length-3
+same-length-3 : tie.Need-shape_of-j-then-not-has_places
 same-length-3 c = search rules
 
-returns-2 : tie.Need-returns-2
+returns-2 : tie.Need-returns-then-not-has_places
 returns-2 c =
-    let b = c.before.before.before.before.before.before.before.before.before.before in
-    insert-full b.requires.0 b.requires.1 (free c.before.before.before.before) (no_room (laid-books b.requires.0) 1 c.before.before.has-places.ensures (not-true _ c.before.if2.true)) b.args.n
-    c.refused2.result
-    c.refused2.ensures
+    let b = c.before.before in
+    insert-full b.requires.0 b.requires.1 (free c.before.before.before.before) (no_room (laid-books b.requires.0) 1 c.has_places.ensures (not-true _ c.if-not-has_places.true)) b.args.n
+    c.refused-then-not-has_places.result
+    c.refused-then-not-has_places.ensures
 
-note-new-requires : tie.Need-note-new-requires
+note-new-requires : tie.Need-note_new-requires
 note-new-requires c κs =
-    let b = c.before.before.before.before.before.before.before.before.before.before.before in
+    let b = c.before.before.before in
     let l = laid-books b.requires.0 in
     (l.store, b.requires.1, roomy_of l (room c.before.before))
 
-add-row-requires : tie.Need-add-row-requires
+add-row-requires : tie.Need-add_row-requires
 add-row-requires c κs =
-    let b = c.before.before.before.before.before.before.before.before.before.before.before.before.before.before.before in
+    let b = c.before.before.before in
     ((laid-books b.requires.0).store, b.requires.1.proper, row-addable b.requires.0 b.requires.1 (free c.before.before.before.before.before.before.before.before.before))
 
 accepted-requires : tie.Need-accepted-requires
 accepted-requires c κs = search rules
 
-same-length-4 : tie.Need-same-length-4
+same-length-4 : tie.Need-shape_of-s
 same-length-4 c = search rules
 
-same-length-5 : tie.Need-same-length-5
+same-length-5 : tie.Need-shape_of-j
 same-length-5 c = search rules
 
-returns-3 : tie.Need-returns-3
+returns-3 : tie.Need-returns
 returns-3 c =
-    let b = c.before.before.before.before.before.before.before.before.before.before.before.before.before.before.before.before.before.before.before in
-    row-inserted b.requires.0 b.requires.1 (free c.before.before.before.before.before.before.before.before.before.before.before.before.before) (room c.before.before.before.before.before.before.before.before.before.before) c.before.before.before.add_row.ensures c.before.before.before.before.before.before.before.note-new.ensures b.args.n c.accepted.result
+    let b = c.before.before.before in
+    row-inserted b.requires.0 b.requires.1 (free c.before.before.before.before.before.before.before.before.before.before.before.before.before) (room c.before.before.before.before.before.before.before.before.before.before) c.add_row.ensures c.note_new.ensures b.args.n c.accepted.result
     c.accepted.ensures
 
-pub insert-spec : {M : Type 1} → statement M
-insert-spec =
+pub insert_spec : {M : Type 1} → statement M
+insert_spec =
     tie.close
     (tie.spec
     validate-row-requires

@@ -18,133 +18,133 @@ use borrow.Author.Rules.{rules}
 use Rattle.store.proofs.rows.other_key.Statement.{statement}
 use Rattle.store.proofs.rows.other_key.Tie as tie
 
-named : (c : tie.After-read-name) →
-    let a = c.before.before.before.before.before.before.args in
-    text_bytes c.read_name.result ≡ (table_in a.p a.places a.s.now a.t).name
+named : (c : tie.After-read_name-name) →
+    let a = c.before.args in
+    text_bytes c.read_name-name.result ≡ (table_in a.p a.places a.s.now a.t).name
 named c =
-    let b = c.before.before.before.before.before.before in
-    its-name (laid-books b.requires.0).store b.args.t b.requires.1.known c.before.table-record.ensures c.read_name.ensures.0
+    let b = c.before in
+    its-name (laid-books b.requires.0).store b.args.t b.requires.1.known c.table_record.ensures c.read_name-name.ensures.0
 
 -- the first reference to the old key, if there is one
-referrer : (c : tie.After-row-references) →
-    let a = c.before.before.before.before.before.before.before.before.args in
+referrer : (c : tie.After-row_references-r) →
+    let a = c.before.before.args in
     let st = parse a.p a.places a.s.now in
-    referrer_of c.row-references.result ≡ row_referenced st.rows (table_in a.p a.places a.s.now a.t).name (meaning a.old ∷ []) st.tables
+    referrer_of c.row_references-r.result ≡ row_referenced st.rows (table_in a.p a.places a.s.now a.t).name (meaning a.old ∷ []) st.tables
 referrer c =
-    let b = c.before.before.before.before.before.before.before.before in
-    asked-for b.requires.0 b.requires.1 (meaning b.args.old) (named c.before.before) b.requires.3 c.row-references.ensures.0
+    let b = c.before.before in
+    asked-for b.requires.0 b.requires.1 (meaning b.args.old) (named c.before.before) b.requires.3 c.row_references-r.ensures.0
 
-unreferenced : (c : tie.Else1) →
-    let a = c.before.before.before.before.before.before.before.before.before.args in
+unreferenced : (c : tie.Else-r) →
+    let a = c.before.before.args in
     let st = parse a.p a.places a.s.now in
     row_referenced st.rows (table_in a.p a.places a.s.now a.t).name (meaning a.old ∷ []) st.tables ≡ none
 unreferenced c =
-    let b = c.before.before.before.before.before.before.before.before.before in
-    no-reference b.requires.0 b.requires.1 (meaning b.args.old) c.before.row-references.result c.if1.false (referrer c.before)
+    let b = c.before.before in
+    no-reference b.requires.0 b.requires.1 (meaning b.args.old) c.row_references-r.result c.if-r.false (referrer c.before)
 
 -- whether there is no place for its row
-lacking : (c : tie.After-lacks-places) →
-    let a = c.before.before.before.before.before.before.before.before.before.before.before.before.args in
-    c.lacks-places.result ≡ lacks (books_of a.p a.places a.s.now a.j.now).journal (length (removals_in a.p a.places a.s.now a.t (meaning a.old ∷ [])))
+lacking : (c : tie.After-lacks_places) →
+    let a = c.before.before.before.before.args in
+    c.lacks_places.result ≡ lacks (books_of a.p a.places a.s.now a.j.now).journal (length (removals_in a.p a.places a.s.now a.t (meaning a.old ∷ [])))
 lacking c =
-    let b = c.before.before.before.before.before.before.before.before.before.before.before.before in
-    one_key b.requires.0 b.requires.1 (meaning b.args.old) b.requires.3 c.lacks-places.ensures
-
-table-record-requires : tie.Need-table-record-requires
-table-record-requires c κs =
     let b = c.before.before.before.before in
+    one_key b.requires.0 b.requires.1 (meaning b.args.old) b.requires.3 c.lacks_places.ensures
+
+table-record-requires : tie.Need-table_record-requires
+table-record-requires c κs =
+    let b = c.before in
     record-asked (laid-books b.requires.0).store b.args.t b.requires.1.known
 
-read-name-requires : tie.Need-read-name-requires
+read-name-requires : tie.Need-read_name-name-requires
 read-name-requires c κs =
-    let b = c.before.before.before.before.before in
-    name-fits (laid-books b.requires.0).store b.args.t b.requires.1.known c.table-record.ensures
+    let b = c.before in
+    name-fits (laid-books b.requires.0).store b.args.t b.requires.1.known c.table_record.ensures
 
-row-references-requires : tie.Need-row-references-requires
-row-references-requires c κs = ((laid-books c.before.before.before.before.before.before.before.requires.0).store, c.before.read_name.ensures.1)
+row-references-requires : tie.Need-row_references-r-requires
+row-references-requires c κs = ((laid-books c.before.before.requires.0).store, c.read_name.ensures.1)
 
 carrying-requires : tie.Need-carrying-requires
 carrying-requires c κs = search rules
 
-same_length : tie.Need-same-length
+same_length : tie.Need-shape_of-s-then-r
 same_length c = search rules
 
-returns : tie.Need-returns
+returns : tie.Need-returns-then-r
 returns c =
-    let b = c.before.before.before.before.before.before.before.before.before.before.before in
-    referenced-kept b.requires.0 b.requires.1 (meaning b.args.old) c.before.before.before.row-references.result c.before.before.if1.true (referrer c.before.before.before) b.args.n c.carrying.result
+    let b = c.before in
+    referenced-kept b.requires.0 b.requires.1 (meaning b.args.old) c.row_references-r.result c.if-r.true (referrer c.before.before.before) b.args.n c.carrying.result
     c.carrying.ensures
 
-lacks-places-requires : tie.Need-lacks-places-requires
+lacks-places-requires : tie.Need-lacks_places-requires
 lacks-places-requires c κs =
-    let b = c.before.before.before.before.before.before.before.before.before.before.before in
+    let b = c.before.before.before.before in
     (laid-books b.requires.0, b.requires.1.known)
 
 refused-requires : tie.Need-refused-requires
 refused-requires c κs = search rules
 
-same-length-2 : tie.Need-same-length-2
+same-length-2 : tie.Need-shape_of-s-then-lacks_places
 same-length-2 c = search rules
 
-same-length-3 : tie.Need-same-length-3
+same-length-3 : tie.Need-shape_of-j-then-lacks_places
 same-length-3 c = search rules
 
-returns-2 : tie.Need-returns-2
+returns-2 : tie.Need-returns-then-lacks_places
 returns-2 c =
-    let b = c.before.before.before.before.before.before.before.before.before.before.before.before.before.before in
-    other-lacks b.requires.0 b.requires.1 (meaning b.args.old) (unreferenced c.before.before.before.before.before) (sym (lacking c.before.before) ∙ c.before.if2.true) b.args.n c.refused.result
+    let b = c.before.before.before.before in
+    other-lacks b.requires.0 b.requires.1 (meaning b.args.old) (unreferenced c.before.before.before.before.before) (sym (lacking c.before.before) ∙ c.if-lacks_places.true) b.args.n c.refused.result
     c.refused.ensures
 
-remove-key-requires : tie.Need-remove-key-requires
+remove-key-requires : tie.Need-remove_key-gone-requires
 remove-key-requires c κs =
-    let b = c.before.before.before.before.before.before.before.before.before.before.before.before.before.before.before in
-    (laid-books b.requires.0, b.requires.1.known, b.requires.2, sym (lacking c.before.before.before) ∙ c.before.before.if2.false)
+    let b = c.before.before.before.before in
+    (laid-books b.requires.0, b.requires.1.known, b.requires.2, sym (lacking c.before.before.before) ∙ c.if-lacks_places.false)
 
-insert-requires : tie.Need-insert-requires
+insert-requires : tie.Need-insert-a-requires
 insert-requires c κs =
-    let b = c.before.before.before.before.before.before.before.before.before.before.before.before.before.before.before.before.before.before.before.before.before.before in
+    let b = c.before.before.before.before in
     let u = unreferenced c.before.before.before.before.before.before.before.before.before.before.before.before.before in
-    let l = sym (lacking c.before.before.before.before.before.before.before.before.before.before) ∙ c.before.before.before.before.before.before.before.before.before.if2.false in
-    let e = c.before.before.before.before.before.before.remove_key.ensures.0 in
+    let l = sym (lacking c.before.before.before.before.before.before.before.before.before.before) ∙ c.if-lacks_places.false in
+    let e = c.remove_key-gone.ensures.0 in
     (gone-booked b.requires.0 b.requires.1 (meaning b.args.old) u l e, gone-full b.requires.0 b.requires.1 (meaning b.args.old) u l e)
 
-is-accepted-requires : tie.Need-is-accepted-requires
+is-accepted-requires : tie.Need-is_accepted-requires
 is-accepted-requires c κs = search rules
 
-same-length-4 : tie.Need-same-length-4
+same-length-4 : tie.Need-shape_of-s-then-is_accepted
 same-length-4 c = search rules
 
-same-length-5 : tie.Need-same-length-5
+same-length-5 : tie.Need-shape_of-j-then-is_accepted
 same-length-5 c = search rules
 
-returns-3 : tie.Need-returns-3
+returns-3 : tie.Need-returns-then-is_accepted
 returns-3 c =
-    let b = c.before.before.before.before.before.before.before.before.before.before.before.before.before.before.before.before.before.before.before.before.before.before.before.before.before.before.before.before.before in
-    again-accepted b.requires.0 b.requires.1 (meaning b.args.old) (unreferenced c.before.before.before.before.before.before.before.before.before.before.before.before.before.before.before.before.before.before.before.before) (sym (lacking c.before.before.before.before.before.before.before.before.before.before.before.before.before.before.before.before.before) ∙ c.before.before.before.before.before.before.before.before.before.before.before.before.before.before.before.before.if2.false) c.before.before.before.before.before.before.before.before.before.before.before.before.before.remove_key.ensures.0 b.args.n
-    c.before.before.before.before.before.before.insert.ensures
-    (sym c.before.is-accepted.ensures ∙ c.if3.true)
+    let b = c.before.before.before.before in
+    again-accepted b.requires.0 b.requires.1 (meaning b.args.old) (unreferenced c.before.before.before.before.before.before.before.before.before.before.before.before.before.before.before.before.before.before.before.before) (sym (lacking c.before.before.before.before.before.before.before.before.before.before.before.before.before.before.before.before.before) ∙ c.if-lacks_places.false) c.remove_key-gone.ensures.0 b.args.n
+    c.insert-a.ensures
+    (sym c.is_accepted.ensures ∙ c.if-is_accepted.true)
 
-with-gone-requires : tie.Need-with-gone-requires
+with-gone-requires : tie.Need-with_gone-requires
 with-gone-requires c κs = search rules
 
-same-length-6 : tie.Need-same-length-6
+same-length-6 : tie.Need-shape_of-s
 same-length-6 c = search rules
 
-same-length-7 : tie.Need-same-length-7
+same-length-7 : tie.Need-shape_of-j
 same-length-7 c = search rules
 
-returns-4 : tie.Need-returns-4
+returns-4 : tie.Need-returns
 returns-4 c =
-    let b = c.before.before.before.before.before.before.before.before.before.before.before.before.before.before.before.before.before.before.before.before.before.before.before.before.before.before.before.before.before.before in
-    again-refused b.requires.0 b.requires.1 (meaning b.args.old) (unreferenced c.before.before.before.before.before.before.before.before.before.before.before.before.before.before.before.before.before.before.before.before.before) (sym (lacking c.before.before.before.before.before.before.before.before.before.before.before.before.before.before.before.before.before.before) ∙ c.before.before.before.before.before.before.before.before.before.before.before.before.before.before.before.before.before.if2.false) c.before.before.before.before.before.before.before.before.before.before.before.before.before.before.remove_key.ensures.0 b.args.n
-    c.before.before.before.before.before.before.before.insert.ensures
-    c.before.before.before.before.before.before.before.before.before.before.before.before.before.before.remove_key.ensures.1
-    c.with-gone.result
-    c.with-gone.ensures
-    (sym c.before.before.is-accepted.ensures ∙ c.before.if3.false)
+    let b = c.before.before.before.before in
+    again-refused b.requires.0 b.requires.1 (meaning b.args.old) (unreferenced c.before.before.before.before.before.before.before.before.before.before.before.before.before.before.before.before.before.before.before.before.before) (sym (lacking c.before.before.before.before.before.before.before.before.before.before.before.before.before.before.before.before.before.before) ∙ c.if-lacks_places.false) c.remove_key-gone.ensures.0 b.args.n
+    c.insert-a.ensures
+    c.remove_key-gone.ensures.1
+    c.with_gone.result
+    c.with_gone.ensures
+    (sym c.is_accepted.ensures ∙ c.if-is_accepted.false)
 
-pub other-key-spec : {M : Type 1} → statement M
-other-key-spec =
+pub other_key_spec : {M : Type 1} → statement M
+other_key_spec =
     tie.close
     (tie.spec
     table-record-requires

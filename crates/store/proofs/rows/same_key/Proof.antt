@@ -24,182 +24,182 @@ use Rattle.store.proofs.rows.same_key.Statement.{statement}
 use Rattle.store.proofs.rows.same_key.Tie as tie
 
 -- the row passes, and there is a place
-free : (c : tie.Else1) →
-    let a = c.before.before.before.before.before.before.args in
+free : (c : tie.Else-not-is_accepted) →
+    let a = c.before.args in
     row_fault a.p a.places (parse a.p a.places a.s.now) (table_in a.p a.places a.s.now a.t) true (cells_of a.row) ≡ none
 free c =
-    let b = c.before.before.before.before.before.before in
-    passes b.requires.0 b.requires.1 true c.before.before.validate-row.ensures (sym c.before.is-accepted.ensures ∙ not-false _ c.if1.false)
+    let b = c.before in
+    passes b.requires.0 b.requires.1 true c.validate_row-f.ensures (sym c.is_accepted.ensures ∙ not-false _ c.if-not-is_accepted.false)
 
-room : (c : tie.Else2) →
-    let a = c.before.before.before.before.before.before.before.before.before.args in
+room : (c : tie.Else-not-has_places) →
+    let a = c.before.before.args in
     lacks (books_of a.p a.places a.s.now a.j.now).journal 1 ≡ false
-room c = has_room (laid-books c.before.before.before.before.before.before.before.before.before.requires.0) 1 c.before.has-places.ensures (not-false _ c.if2.false)
+room c = has_room (laid-books c.before.before.requires.0) 1 c.has_places.ensures (not-false _ c.if-not-has_places.false)
 
 -- the name and the key that its old row is looked for by
-named : (c : tie.After-read-name) →
-    let a = c.before.before.before.before.before.before.before.before.before.before.before.before.args in
-    text_bytes c.read_name.result ≡ (table_in a.p a.places a.s.now a.t).name
+named : (c : tie.After-read_name-name) →
+    let a = c.before.before.before.args in
+    text_bytes c.read_name-name.result ≡ (table_in a.p a.places a.s.now a.t).name
 named c =
-    let b = c.before.before.before.before.before.before.before.before.before.before.before.before in
-    its-name (laid-books b.requires.0).store b.args.t b.requires.1.known c.before.table-record.ensures c.read_name.ensures.0
+    let b = c.before.before.before in
+    its-name (laid-books b.requires.0).store b.args.t b.requires.1.known c.table_record.ensures c.read_name-name.ensures.0
 
-keyed : (c : tie.After-key-column) →
-    let a = c.before.before.before.before.before.before.before.before.before.before.before.before.before.before.before.args in
-    held (get_or a.row.cells c.key-column.result blank) ≡ key_of (table_in a.p a.places a.s.now a.t) (cells_of a.row)
+keyed : (c : tie.After-key_column-column) →
+    let a = c.before.before.before.before.args in
+    held (get_or a.row.cells c.key_column-column.result blank) ≡ key_of (table_in a.p a.places a.s.now a.t) (cells_of a.row)
 keyed c =
-    let b = c.before.before.before.before.before.before.before.before.before.before.before.before.before.before.before in
-    key-held (laid-books b.requires.0).store b.args.t b.requires.1.known c.before.table-record2.ensures c.key-column.ensures b.requires.1
+    let b = c.before.before.before.before in
+    key-held (laid-books b.requires.0).store b.args.t b.requires.1.known c.table_record-2.ensures c.key_column-column.ensures b.requires.1
 
-few : (c : tie.After-key-column) → c.key-column.result < 8
+few : (c : tie.After-key_column-column) → c.key_column-column.result < 8
 few c =
-    let b = c.before.before.before.before.before.before.before.before.before.before.before.before.before.before.before in
-    key-few (laid-books b.requires.0).store b.args.t b.requires.1.known c.before.table-record2.ensures c.key-column.ensures b.requires.1
+    let b = c.before.before.before.before in
+    key-few (laid-books b.requires.0).store b.args.t b.requires.1.known c.table_record-2.ensures c.key_column-column.ensures b.requires.1
 
 -- there is none, or the one at place i
-absent : (c : tie.After-enum-told) →
-    let a = c.before.before.before.before.before.before.before.before.before.before.before.before.before.before.before.before.before.before.before.before.before.args in
-    none ≡ place_of (is_row (text_bytes c.before.before.before.before.before.before.before.before.before.read_name.result) (held (get_or a.row.cells c.before.before.before.before.before.before.key-column.result blank))) (parse a.p a.places a.s.now).rows
-absent c = answer-is c.enum_told.given.1 c.before.before.find-row.ensures
+absent : (c : tie.In_default) →
+    let a = c.before.before.before.before.before.args in
+    none ≡ place_of (is_row (text_bytes c.read_name.result) (held (get_or a.row.cells c.key-column.result blank))) (parse a.p a.places a.s.now).rows
+absent c = answer-is c.in_default.is c.find_row.ensures
 
-found : (c : tie.After-i) →
-    let a = c.before.before.before.before.before.before.before.before.before.before.before.before.before.before.before.before.before.before.before.before.before.args in
-    some c.i.given.0.0
-    ≡ place_of (is_row (text_bytes c.before.before.before.before.before.before.before.before.before.read_name.result) (held (get_or a.row.cells c.before.before.before.before.before.before.key-column.result blank))) (parse a.p a.places a.s.now).rows
-found c = answer-is c.i.given.1 c.before.before.find-row.ensures
+found : (c : tie.In-At-2) →
+    let a = c.before.before.before.before.before.args in
+    some c.i-1.given.0.0
+    ≡ place_of (is_row (text_bytes c.read_name.result) (held (get_or a.row.cells c.key-column.result blank))) (parse a.p a.places a.s.now).rows
+found c = answer-is c.i-1.given.1 c.find_row.ensures
 
-validate-row-requires : tie.Need-validate-row-requires
-validate-row-requires c κs = let b = c.before.before.before in (b.requires.0.store, b.requires.1)
+validate-row-requires : tie.Need-validate_row-f-requires
+validate-row-requires c κs = let b = c.before in (b.requires.0.store, b.requires.1)
 
-is-accepted-requires : tie.Need-is-accepted-requires
+is-accepted-requires : tie.Need-is_accepted-requires
 is-accepted-requires c κs = search rules
 
 refused-requires : tie.Need-refused-requires
 refused-requires c κs = search rules
 
-same_length : tie.Need-same-length
+same_length : tie.Need-shape_of-s-then-not-is_accepted
 same_length c = search rules
 
-returns : tie.Need-returns
+returns : tie.Need-returns-then-not-is_accepted
 returns c =
-    let b = c.before.before.before.before.before.before.before in
-    same-refused b.requires.0 b.requires.1 c.before.before.before.validate-row.ensures (sym c.before.before.is-accepted.ensures ∙ not-true _ c.before.if1.true) b.args.n
+    let b = c.before in
+    same-refused b.requires.0 b.requires.1 c.validate_row-f.ensures (sym c.is_accepted.ensures ∙ not-true _ c.if-not-is_accepted.true) b.args.n
     c.refused.result
     c.refused.ensures
 
-has-places-requires : tie.Need-has-places-requires
-has-places-requires c κs = paged-of (laid-books c.before.before.before.before.before.before.before.requires.0)
+has-places-requires : tie.Need-has_places-requires
+has-places-requires c κs = paged-of (laid-books c.before.before.requires.0)
 
-refused-requires-2 : tie.Need-refused-requires-2
+refused-requires-2 : tie.Need-refused-requires-then-not-has_places
 refused-requires-2 c κs = search rules
 
-same-length-2 : tie.Need-same-length-2
+same-length-2 : tie.Need-shape_of-s-then-not-has_places
 same-length-2 c = search rules
 
-same-length-3 : tie.Need-same-length-3
+same-length-3 : tie.Need-shape_of-j-then-not-has_places
 same-length-3 c = search rules
 
-returns-2 : tie.Need-returns-2
+returns-2 : tie.Need-returns-then-not-has_places
 returns-2 c =
-    let b = c.before.before.before.before.before.before.before.before.before.before in
-    same_full b.requires.0 b.requires.1 (free c.before.before.before.before) (no_room (laid-books b.requires.0) 1 c.before.before.has-places.ensures (not-true _ c.before.if2.true)) b.args.n
-    c.refused2.result
-    c.refused2.ensures
+    let b = c.before.before in
+    same_full b.requires.0 b.requires.1 (free c.before.before.before.before) (no_room (laid-books b.requires.0) 1 c.has_places.ensures (not-true _ c.if-not-has_places.true)) b.args.n
+    c.refused-then-not-has_places.result
+    c.refused-then-not-has_places.ensures
 
-table-record-requires : tie.Need-table-record-requires
+table-record-requires : tie.Need-table_record-requires
 table-record-requires c κs =
-    let b = c.before.before.before.before.before.before.before.before.before.before in
+    let b = c.before.before.before in
     record-asked (laid-books b.requires.0).store b.args.t b.requires.1.known
 
-read-name-requires : tie.Need-read-name-requires
+read-name-requires : tie.Need-read_name-name-requires
 read-name-requires c κs =
-    let b = c.before.before.before.before.before.before.before.before.before.before.before in
-    name-fits (laid-books b.requires.0).store b.args.t b.requires.1.known c.table-record.ensures
+    let b = c.before.before.before in
+    name-fits (laid-books b.requires.0).store b.args.t b.requires.1.known c.table_record.ensures
 
-table-record-requires-2 : tie.Need-table-record-requires-2
+table-record-requires-2 : tie.Need-table_record-requires-2
 table-record-requires-2 c κs =
-    let b = c.before.before.before.before.before.before.before.before.before.before.before.before.before in
+    let b = c.before.before.before.before in
     record-asked (laid-books b.requires.0).store b.args.t b.requires.1.known
 
-key-column-requires : tie.Need-key-column-requires
+key-column-requires : tie.Need-key_column-column-requires
 key-column-requires c κs =
-    let b = c.before.before.before.before.before.before.before.before.before.before.before.before.before.before in
-    key_fits (laid-books b.requires.0).store b.args.t b.requires.1.known c.table-record2.ensures
+    let b = c.before.before.before.before in
+    key_fits (laid-books b.requires.0).store b.args.t b.requires.1.known c.table_record-2.ensures
 
-mul-k : tie.Need-overflow-mul-k
+mul-k : tie.Need-offset_bounds-cells-column
 mul-k c = let l = few c.before in omega arith
 
-array-copy-out-k : tie.Need-array-copy-out-k
+array-copy-out-k : tie.Need-bounds-cells-column
 array-copy-out-k c = few c.before
 
-find-row-requires : tie.Need-find-row-requires
+find-row-requires : tie.Need-find_row-requires
 find-row-requires c κs =
-    let b = c.before.before.before.before.before.before.before.before.before.before.before.before.before.before.before.before.before.before in
-    let n = c.before.before.before.before.before.before.read_name.ensures in
-    let r = c.before.before.before.before.table-record2.ensures in
-    let k = c.before.before.before.key-column.ensures in (
+    let b = c.before.before.before.before.before in
+    let n = c.read_name.ensures in
+    let r = c.table-record2.ensures in
+    let k = c.key-column.ensures in (
       (laid-books b.requires.0).store,
-      its-key (laid-books b.requires.0).store b.args.t b.requires.1.known r k c.before.before.before.before.before.before.before.table-record.ensures n.0,
+      its-key (laid-books b.requires.0).store b.args.t b.requires.1.known r k c.table-record.ensures n.0,
       n.1,
       key-proper (laid-books b.requires.0).store b.args.t b.requires.1.known r k b.requires.1,
     )
 
-enum-known-i : tie.Need-enum-known-i
+enum-known-i : tie.Need-enum_known-i
 enum-known-i c = search rules
 
-enum_told : tie.Need-enum-told
+enum_told : tie.Need-enum_told-1
 enum_told c = search rules
 
 accepted-requires : tie.Need-accepted-requires
 accepted-requires c κs = search rules
 
-same-length-4 : tie.Need-same-length-4
+same-length-4 : tie.Need-shape_of-s-in_default
 same-length-4 c = search rules
 
-same-length-5 : tie.Need-same-length-5
+same-length-5 : tie.Need-shape_of-j-in_default
 same-length-5 c = search rules
 
-returns-3 : tie.Need-returns-3
+returns-3 : tie.Need-returns-in_default
 returns-3 c =
-    let b = c.before.before.before.before.before.before.before.before.before.before.before.before.before.before.before.before.before.before.before.before.before.before in
-    same-nothing b.requires.0 b.requires.1 (free c.before.before.before.before.before.before.before.before.before.before.before.before.before.before.before.before) (room c.before.before.before.before.before.before.before.before.before.before.before.before.before) (named c.before.before.before.before.before.before.before.before.before.before) (keyed c.before.before.before.before.before.before.before) (absent c.before) b.args.n c.accepted.result
+    let b = c.before.before.before.before.before in
+    same-nothing b.requires.0 b.requires.1 (free c.before.before.before.before.before.before.before.before.before.before.before.before.before.before.before) (room c.before.before.before.before.before.before.before.before.before.before.before.before) (named c.before.before.before.before.before.before.before.before.before) (keyed c.before.before.before.before.before.before) (absent c.before) b.args.n c.accepted.result
     c.accepted.ensures
 
-note-stored-requires : tie.Need-note-stored-requires
+note-stored-requires : tie.Need-note_stored-requires
 note-stored-requires c κs =
-    let b = c.before.before.before.before.before.before.before.before.before.before.before.before.before.before.before.before.before.before.before.before.before.before.before.before in
+    let b = c.before.before.before.before.before.before in
     let l = laid-books b.requires.0 in (
       l.store,
-      row-there b.requires.0 b.requires.1 (free c.before.before.before.before.before.before.before.before.before.before.before.before.before.before.before.before.before.before) (room c.before.before.before.before.before.before.before.before.before.before.before.before.before.before.before) (named c.before.before.before.before.before.before.before.before.before.before.before.before) (keyed c.before.before.before.before.before.before.before.before.before) (found c.before.before.before),
-      roomy_of l (room c.before.before.before.before.before.before.before.before.before.before.before.before.before.before.before),
+      row-there b.requires.0 b.requires.1 (free c.before.before.before.before.before.before.before.before.before.before.before.before.before.before.before.before) (room c.before.before.before.before.before.before.before.before.before.before.before.before.before) (named c.before.before.before.before.before.before.before.before.before.before) (keyed c.before.before.before.before.before.before.before) (found c.before),
+      roomy_of l (room c.before.before.before.before.before.before.before.before.before.before.before.before.before),
     )
 
-replace-row-requires : tie.Need-replace-row-requires
+replace-row-requires : tie.Need-replace_row-requires
 replace-row-requires c κs =
-    let b = c.before.before.before.before.before.before.before.before.before.before.before.before.before.before.before.before.before.before.before.before.before.before.before.before.before.before.before.before in (
+    let b = c.before.before.before.before.before.before in (
       (laid-books b.requires.0).store,
       b.requires.1.proper,
-      row-replaceable b.requires.0 b.requires.1 (free c.before.before.before.before.before.before.before.before.before.before.before.before.before.before.before.before.before.before.before.before.before.before) (room c.before.before.before.before.before.before.before.before.before.before.before.before.before.before.before.before.before.before.before) (named c.before.before.before.before.before.before.before.before.before.before.before.before.before.before.before.before) (keyed c.before.before.before.before.before.before.before.before.before.before.before.before.before) (found c.before.before.before.before.before.before.before),
+      row-replaceable b.requires.0 b.requires.1 (free c.before.before.before.before.before.before.before.before.before.before.before.before.before.before.before.before.before.before.before.before) (room c.before.before.before.before.before.before.before.before.before.before.before.before.before.before.before.before.before) (named c.before.before.before.before.before.before.before.before.before.before.before.before.before.before) (keyed c.before.before.before.before.before.before.before.before.before.before.before) (found c.before.before.before.before.before),
     )
 
 accepted-requires-2 : tie.Need-accepted-requires-2
 accepted-requires-2 c κs = search rules
 
-same-length-6 : tie.Need-same-length-6
+same-length-6 : tie.Need-shape_of-s
 same-length-6 c = search rules
 
-same-length-7 : tie.Need-same-length-7
+same-length-7 : tie.Need-shape_of-j
 same-length-7 c = search rules
 
-returns-4 : tie.Need-returns-4
+returns-4 : tie.Need-returns
 returns-4 c =
-    let b = c.before.before.before.before.before.before.before.before.before.before.before.before.before.before.before.before.before.before.before.before.before.before.before.before.before.before.before.before.before.before.before.before in
-    row-replaced b.requires.0 b.requires.1 (free c.before.before.before.before.before.before.before.before.before.before.before.before.before.before.before.before.before.before.before.before.before.before.before.before.before.before) (room c.before.before.before.before.before.before.before.before.before.before.before.before.before.before.before.before.before.before.before.before.before.before.before) (named c.before.before.before.before.before.before.before.before.before.before.before.before.before.before.before.before.before.before.before.before) (keyed c.before.before.before.before.before.before.before.before.before.before.before.before.before.before.before.before.before) (found c.before.before.before.before.before.before.before.before.before.before.before) c.before.before.before.replace-row.ensures
-    c.before.before.before.before.before.before.before.note-stored.ensures b.args.n c.accepted2.result
-    c.accepted2.ensures
+    let b = c.before.before.before.before.before.before in
+    row-replaced b.requires.0 b.requires.1 (free c.before.before.before.before.before.before.before.before.before.before.before.before.before.before.before.before.before.before.before.before.before.before.before.before) (room c.before.before.before.before.before.before.before.before.before.before.before.before.before.before.before.before.before.before.before.before.before) (named c.before.before.before.before.before.before.before.before.before.before.before.before.before.before.before.before.before.before) (keyed c.before.before.before.before.before.before.before.before.before.before.before.before.before.before.before) (found c.before.before.before.before.before.before.before.before.before) c.replace_row.ensures
+    c.note_stored.ensures b.args.n c.accepted-2.result
+    c.accepted-2.ensures
 
-pub same-key-spec : {M : Type 1} → statement M
-same-key-spec =
+pub same_key_spec : {M : Type 1} → statement M
+same_key_spec =
     tie.close
     (tie.spec
     validate-row-requires

@@ -14,71 +14,71 @@ use Rattle.store.proofs.rows.update.Statement.{statement}
 use Rattle.store.proofs.rows.update.Tie as tie
 
 -- the row's key
-few : (c : tie.After-key-column) → c.key-column.result < 8
+few : (c : tie.After-key_column-column) → c.key_column-column.result < 8
 few c =
-    let b = c.before.before.before.before.before.before in
-    key-few (laid-books b.requires.0).store b.args.t b.requires.1.known c.before.table-record.ensures c.key-column.ensures b.requires.1
+    let b = c.before in
+    key-few (laid-books b.requires.0).store b.args.t b.requires.1.known c.table_record.ensures c.key_column-column.ensures b.requires.1
 
-keyed : (c : tie.After-key-column) →
-    let a = c.before.before.before.before.before.before.args in
-    held (get_or a.row.cells c.key-column.result blank) ≡ key_of (table_in a.p a.places a.s.now a.t) (cells_of a.row)
+keyed : (c : tie.After-key_column-column) →
+    let a = c.before.args in
+    held (get_or a.row.cells c.key_column-column.result blank) ≡ key_of (table_in a.p a.places a.s.now a.t) (cells_of a.row)
 keyed c =
-    let b = c.before.before.before.before.before.before in
-    key-held (laid-books b.requires.0).store b.args.t b.requires.1.known c.before.table-record.ensures c.key-column.ensures b.requires.1
+    let b = c.before in
+    key-held (laid-books b.requires.0).store b.args.t b.requires.1.known c.table_record.ensures c.key_column-column.ensures b.requires.1
 
-table-record-requires : tie.Need-table-record-requires
+table-record-requires : tie.Need-table_record-requires
 table-record-requires c κs =
-    let b = c.before.before.before.before in
+    let b = c.before in
     record-asked (laid-books b.requires.0).store b.args.t b.requires.1.known
 
-key-column-requires : tie.Need-key-column-requires
+key-column-requires : tie.Need-key_column-column-requires
 key-column-requires c κs =
-    let b = c.before.before.before.before.before in
-    key_fits (laid-books b.requires.0).store b.args.t b.requires.1.known c.table-record.ensures
+    let b = c.before in
+    key_fits (laid-books b.requires.0).store b.args.t b.requires.1.known c.table_record.ensures
 
-mul-k : tie.Need-overflow-mul-k
+mul-k : tie.Need-offset_bounds-cells-column
 mul-k c = let l = few c.before in omega arith
 
-array-copy-out-k : tie.Need-array-copy-out-k
+array-copy-out-k : tie.Need-bounds-cells-column
 array-copy-out-k c = few c.before
 
-is-same-requires : tie.Need-is-same-requires
+is-same-requires : tie.Need-is_same-requires
 is-same-requires c κs =
-    let b = c.before.before.before.before.before.before.before.before in
-    (b.requires.2, key-proper (laid-books b.requires.0).store b.args.t b.requires.1.known c.before.before.before.table-record.ensures c.before.before.key-column.ensures b.requires.1)
+    let b = c.before in
+    (b.requires.2, key-proper (laid-books b.requires.0).store b.args.t b.requires.1.known c.table_record.ensures c.key_column-column.ensures b.requires.1)
 
-same-key-requires : tie.Need-same-key-requires
+same-key-requires : tie.Need-same_key-requires
 same-key-requires c κs =
-    let b = c.before.before.before.before.before.before.before.before.before.before.before.before in
+    let b = c.before in
     (b.requires.0, b.requires.1)
 
-same_length : tie.Need-same-length
+same_length : tie.Need-shape_of-s-then-is_same
 same_length c = search rules
 
-same-length-2 : tie.Need-same-length-2
+same-length-2 : tie.Need-shape_of-j-then-is_same
 same-length-2 c = search rules
 
-returns : tie.Need-returns
+returns : tie.Need-returns-then-is_same
 returns c =
-    let b = c.before.before.before.before.before.before.before.before.before.before.before.before.before.before.before.before.before in
-    pair-with-same b.requires.0 b.requires.1 (meaning b.args.old) (keyed c.before.before.before.before.before.before.before.before.before.before.before) b.args.n (sym c.before.before.before.before.before.before.before.before.is_same.ensures ∙ c.before.before.before.before.before.before.before.if1.true) c.before.before.before.before.same_key.ensures
+    let b = c.before in
+    pair-with-same b.requires.0 b.requires.1 (meaning b.args.old) (keyed c.before.before.before.before.before.before.before.before.before.before.before) b.args.n (sym c.is_same.ensures ∙ c.if-is_same.true) c.same_key.ensures
 
-other-key-requires : tie.Need-other-key-requires
-other-key-requires c κs = c.before.before.before.before.before.before.before.before.before.before.before.before.requires
+other-key-requires : tie.Need-other_key-requires
+other-key-requires c κs = c.before.requires
 
-same-length-3 : tie.Need-same-length-3
+same-length-3 : tie.Need-shape_of-s
 same-length-3 c = search rules
 
-same-length-4 : tie.Need-same-length-4
+same-length-4 : tie.Need-shape_of-j
 same-length-4 c = search rules
 
-returns-2 : tie.Need-returns-2
+returns-2 : tie.Need-returns
 returns-2 c =
-    let b = c.before.before.before.before.before.before.before.before.before.before.before.before.before.before.before.before.before in
-    pair-with-other b.requires.0 b.requires.1 (meaning b.args.old) (keyed c.before.before.before.before.before.before.before.before.before.before.before) b.args.n (sym c.before.before.before.before.before.before.before.before.is_same.ensures ∙ c.before.before.before.before.before.before.before.if1.false) c.before.before.before.before.other_key.ensures
+    let b = c.before in
+    pair-with-other b.requires.0 b.requires.1 (meaning b.args.old) (keyed c.before.before.before.before.before.before.before.before.before.before.before) b.args.n (sym c.is_same.ensures ∙ c.if-is_same.false) c.other_key.ensures
 
-pub update-spec : {M : Type 1} → statement M
-update-spec =
+pub update_spec : {M : Type 1} → statement M
+update_spec =
     tie.close
     (tie.spec
     table-record-requires

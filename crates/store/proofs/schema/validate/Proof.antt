@@ -14,13 +14,13 @@ use Rattle.store.proofs.schema.validate.Statement.{statement}
 use Rattle.store.proofs.schema.validate.Tie as tie
 
 -- the steps back: from the key column's test to the count's, the name's, and where the function began
-abbrev counted : tie.Else3 → tie.Else2
+abbrev counted : tie.Else-count-rec → tie.Else-count-eq0
 counted c = c.before.before
 
-abbrev named : tie.Else2 → tie.Else1
+abbrev named : tie.Else-count-eq0 → tie.Else-rec-eq0
 named c = c.before.before
 
-abbrev start : tie.Else1 → tie.Start
+abbrev start : tie.Else-rec-eq0 → tie.Start
 start c = c.before.before.before.before
 
 abbrev tables : tie.Start → List Table
@@ -29,59 +29,59 @@ tables b = (parse b.args.p b.args.places b.args.s.now).tables
 least : (b : tie.Start) → 27 ≤ length b.args.rec.now
 least b = record-least b.args.p b.args.rec.now b.requires.1
 
-shared-slice-read-if1 : tie.Need-shared-slice-read-if1
+shared-slice-read-if1 : tie.Need-bounds-rec-0
 shared-slice-read-if1 c = omega (arith, least c.before.before.before)
 
-returns : tie.Need-returns
+returns : tie.Need-returns-then-rec-eq0
 returns c =
     let b = c.before.before.before.before in
-    table-unnamed b.args.p b.args.rec.now b.requires.1 (tables b) c.if1.true
+    table-unnamed b.args.p b.args.rec.now b.requires.1 (tables b) c.if-rec-eq0.true
 
-shared-slice-read-count : tie.Need-shared-slice-read-count
+shared-slice-read-count : tie.Need-bounds-rec-26
 shared-slice-read-count c = omega (arith, least (start c.before))
 
-cast-count : tie.Need-overflow-cast-count
-cast-count c = omega (arith, c.shared-slice-known4.given 26)
+cast-count : tie.Need-overflow_cast-count
+cast-count c = omega (arith, c.shared_slice_known-4-1.given 26)
 
-returns-2 : tie.Need-returns-2
+returns-2 : tie.Need-returns-then-count-eq0
 returns-2 c =
     let e = c.before.before in
     let b = start e in
-    columns-none b.args.p b.args.rec.now b.pre.1 (tables b) e.if1.false c.if2.true
+    columns-none b.args.p b.args.rec.now b.requires.1 (tables b) e.if-rec-eq0.false c.if-count-eq0.true
 
-shared-slice-read-if3 : tie.Need-shared-slice-read-if3
+shared-slice-read-if3 : tie.Need-bounds-rec-25
 shared-slice-read-if3 c = omega (arith, least (start (named c.before)))
 
-cast-if3 : tie.Need-overflow-cast-if3
-cast-if3 c = omega (arith, c.shared-slice-known5.given 25)
+cast-if3 : tie.Need-overflow_cast-rec
+cast-if3 c = omega (arith, c.shared_slice_known-5-1.given 25)
 
-returns-3 : tie.Need-returns-3
+returns-3 : tie.Need-returns-then-count-rec
 returns-3 c =
     let d = c.before.before in
     let e = named d in
     let b = start e in
-    key-beyond b.args.p b.args.rec.now b.pre.1 (tables b) e.if1.left d.if2.false c.if3.true
+    key-beyond b.args.p b.args.rec.now b.requires.1 (tables b) e.if-rec-eq0.left d.if-count-eq0.false c.if-count-rec.true
 
-columns-fault-requires : tie.Need-columns-fault-requires
+columns-fault-requires : tie.Need-columns_fault-f-requires
 columns-fault-requires c κs = (start (named (counted c))).requires
 
-is-accepted-requires : tie.Need-is-accepted-requires
+is-accepted-requires : tie.Need-is_accepted-requires
 is-accepted-requires c κs = search rules
 
-returns-4 : tie.Need-returns-4
+returns-4 : tie.Need-returns-then-not-is_accepted
 returns-4 c =
     let f = c.before.before in
     let k = f.before in
     let d = counted k in
     let e = named d in
     let b = start e in
-    columns-refuse b.args.p b.args.rec.now b.pre.1 (tables b) e.if1.left d.if2.left k.if3.false f.columns-fault.result f.columns-fault.ensures
-    (sym c.before.is-accepted.ensures ∙ not-true _ c.if4.true)
+    columns-refuse b.args.p b.args.rec.now b.requires.1 (tables b) e.if-rec-eq0.left d.if-count-eq0.left k.if-count-rec.false f.columns_fault-f.result f.columns_fault-f.ensures
+    (sym c.is_accepted.ensures ∙ not-true _ c.if-not-is_accepted.true)
 
-repeat-fault-requires : tie.Need-repeat-fault-requires
+repeat-fault-requires : tie.Need-repeat_fault-requires
 repeat-fault-requires c κs = (start (named (counted c.before.before.before))).requires.1
 
-returns-5 : tie.Need-returns-5
+returns-5 : tie.Need-returns
 returns-5 c =
     let g = c.before in
     let f = g.before.before in
@@ -89,13 +89,13 @@ returns-5 c =
     let d = counted k in
     let e = named d in
     let b = start e in
-    repeats-decide b.args.p b.args.rec.now b.pre.1 (tables b) e.if1.left d.if2.left k.if3.false f.columns-fault.result f.columns-fault.ensures
-    (sym g.before.is-accepted.ensures ∙ not-false _ g.if4.false)
-    c.repeat-fault.result
-    c.repeat-fault.ensures
+    repeats-decide b.args.p b.args.rec.now b.requires.1 (tables b) e.if-rec-eq0.left d.if-count-eq0.left k.if-count-rec.false f.columns_fault-f.result f.columns_fault-f.ensures
+    (sym g.is_accepted.ensures ∙ not-false _ g.if-not-is_accepted.false)
+    c.repeat_fault.result
+    c.repeat_fault.ensures
 
-pub validate-spec : {M : Type 1} → statement M
-validate-spec =
+pub validate_spec : {M : Type 1} → statement M
+validate_spec =
     tie.close
     (tie.spec
     shared-slice-read-if1

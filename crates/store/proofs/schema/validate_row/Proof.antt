@@ -21,10 +21,10 @@ use Rattle.store.proofs.schema.validate_row.Statement.{statement}
 use Rattle.store.proofs.schema.validate_row.Tie as tie
 
 -- the steps back: from the search for the key to the key column, and to where the function began
-abbrev read : tie.After-is-stored → tie.After-key-column
+abbrev read : tie.After-is_stored-stored → tie.After-key_column-at
 read c = c.before.before.before.before.before
 
-abbrev start : tie.After-key-column → tie.Start
+abbrev start : tie.After-key_column-at → tie.Start
 start c = c.before.before.before.before
 
 -- the state, the table and the row's values
@@ -41,131 +41,131 @@ laid_out_lem : (b : tie.Start) → LaidStore b.args.p b.args.places b.args.s.now
 laid_out_lem b = laid-store b.args.p b.args.places b.args.s.now b.requires.0
 
 -- the row's key
-few : (c : tie.After-key-column) → c.key-column.result < 8
+few : (c : tie.After-key_column-at) → c.key_column-at.result < 8
 few c =
     let b = start c in
-    key-few (laid_out_lem b) b.args.t b.pre.1.known c.before.before.table-record.ensures c.key-column.ensures b.pre.1
+    key-few (laid_out_lem b) b.args.t b.requires.1.known c.table_record-rec.ensures c.key_column-at.ensures b.requires.1
 
-keyed : (c : tie.After-key-column) → let b = start c in held (get_or b.args.row.cells c.key-column.result blank) ≡ key_of (its b) (values b)
+keyed : (c : tie.After-key_column-at) → let b = start c in held (get_or b.args.row.cells c.key_column-at.result blank) ≡ key_of (its b) (values b)
 keyed c =
     let b = start c in
-    key-held (laid_out_lem b) b.args.t b.pre.1.known c.before.before.table-record.ensures c.key-column.ensures b.pre.1
+    key-held (laid_out_lem b) b.args.t b.requires.1.known c.table_record-rec.ensures c.key_column-at.ensures b.requires.1
 
-defined : (c : tie.Else1) → let b = start c.before.before.before.before in is_undefined (key_of (its b) (values b)) ≡ false
-defined c = sym (ap is_undefined (keyed c.before.before.before.before)) ∙ sym c.before.is-undefined.ensures ∙ c.if1.false
+defined : (c : tie.Else-is_undefined) → let b = start c.before.before.before.before in is_undefined (key_of (its b) (values b)) ≡ false
+defined c = sym (ap is_undefined (keyed c.before.before.before.before)) ∙ sym c.is_undefined.ensures ∙ c.if-is_undefined.false
 
 -- whether a row has it, and that none has where the row is to be a new one
-stored : (c : tie.After-is-stored) → let b = start (read c) in c.is-stored.result ≡ has_row (state b).rows (its b).name (key_of (its b) (values b))
+stored : (c : tie.After-is_stored-stored) → let b = start (read c) in c.is_stored-stored.result ≡ has_row (state b).rows (its b).name (key_of (its b) (values b))
 stored c =
     let k = read c in
-    let r = k.before.before.table-record in
-    let n = k.before.read_name in
+    let r = k.table_record-rec in
+    let n = k.read_name-name in
     let b = start k in
     let a = b.args in
-    stored_is a.p a.places a.s.now a.t (laid_out_lem b) b.pre.1.known r.result.now r.ensures a.row b.pre.1 (text_bytes n.result) n.ensures.0
-    k.key-column.result
-    k.key-column.ensures
+    stored_is a.p a.places a.s.now a.t (laid_out_lem b) b.requires.1.known r.result.now r.ensures a.row b.requires.1 (text_bytes n.result) n.ensures.0
+    k.key_column-at.result
+    k.key_column-at.ensures
     blank
-    c.is-stored.result
-    c.is-stored.ensures
+    c.is_stored-stored.result
+    c.is_stored-stored.ensures
 
-allowed : (c : tie.Joined2) → (not (start (read c.before)).args.update && c.before.is-stored.result) ≡ false
+allowed : (c : tie.Joined-not-update) → (not (start (read c.before)).args.update && c.is_stored-stored.result) ≡ false
 allowed c =
     let u = (start (read c.before)).args.update in
-    let x = c.before.is-stored.result in
-    ⊎_elim (λ w. key-new u x (w.0.taken, w.1.left)) (λ w. key-own u x w.left) c.if2.branch
+    let x = c.is_stored-stored.result in
+    ⊎_elim (λ w. key-new u x (w.0.taken, w.1.left)) (λ w. key-own u x w.left) c.if-not-update.branch-raw
 
-table-record-requires : tie.Need-table-record-requires
+table-record-requires : tie.Need-table_record-rec-requires
 table-record-requires c κs =
     let b = c.before in
     record-asked (laid_out_lem b) b.args.t b.requires.1.known
 
-read-name-requires : tie.Need-read-name-requires
+read-name-requires : tie.Need-read_name-name-requires
 read-name-requires c κs =
     let b = c.before.before in
-    name-fits (laid_out_lem b) b.args.t b.requires.1.known c.table-record.ensures
+    name-fits (laid_out_lem b) b.args.t b.requires.1.known c.table_record-rec.ensures
 
-key-column-requires : tie.Need-key-column-requires
+key-column-requires : tie.Need-key_column-at-requires
 key-column-requires c κs =
     let b = c.before.before.before in
-    key_fits (laid_out_lem b) b.args.t b.requires.1.known c.before.table-record.ensures
+    key_fits (laid_out_lem b) b.args.t b.requires.1.known c.table_record-rec.ensures
 
-mul-k : tie.Need-overflow-mul-k
+mul-k : tie.Need-offset_bounds-cells-at
 mul-k c = let l = few c.before in omega arith
 
-array-copy-out-k : tie.Need-array-copy-out-k
+array-copy-out-k : tie.Need-bounds-cells-at
 array-copy-out-k c = few c.before
 
-is-undefined-requires : tie.Need-is-undefined-requires
+is-undefined-requires : tie.Need-is_undefined-requires
 is-undefined-requires c κs =
     let k = c.before.before in
     let b = start k in
-    key-proper (laid_out_lem b) b.args.t b.pre.1.known k.before.before.table-record.ensures k.key-column.ensures b.pre.1
+    key-proper (laid_out_lem b) b.args.t b.requires.1.known k.table_record-rec.ensures k.key_column-at.ensures b.requires.1
 
-returns : tie.Need-returns
+returns : tie.Need-returns-then-is_undefined
 returns c =
     let k = c.before.before.before.before in
     let b = start k in
     key-undefined b.args.p b.args.places (state b) (its b) b.args.update (values b)
-    (sym (ap is_undefined (keyed k)) ∙ sym c.before.is-undefined.ensures ∙ c.if1.true)
+    (sym (ap is_undefined (keyed k)) ∙ sym c.is_undefined.ensures ∙ c.if-is_undefined.true)
 
-is-stored-requires : tie.Need-is-stored-requires
+is-stored-requires : tie.Need-is_stored-stored-requires
 is-stored-requires c κs =
     let k = c.before.before.before.before in
-    let r = k.before.before.table-record.ensures in
-    let n = k.before.read_name.ensures in
+    let r = k.table_record-rec.ensures in
+    let n = k.read_name-name.ensures in
     let b = start k in (
       laid_out_lem b,
-      its-key (laid_out_lem b) b.args.t b.pre.1.known r k.key-column.ensures r n.0,
+      its-key (laid_out_lem b) b.args.t b.requires.1.known r k.key_column-at.ensures r n.0,
       n.1,
-      key-proper (laid_out_lem b) b.args.t b.pre.1.known r k.key-column.ensures b.pre.1,
+      key-proper (laid_out_lem b) b.args.t b.requires.1.known r k.key_column-at.ensures b.requires.1,
     )
 
-returns-2 : tie.Need-returns-2
+returns-2 : tie.Need-returns-then-stored
 returns-2 c =
     let x = c.before.before in
     let b = start (read x) in
-    key-exists b.args.p b.args.places (state b) (its b) b.args.update (values b) (defined x.before) x.is-stored.result (stored x) c.before.if2.true
-    c.if3.true
+    key-exists b.args.p b.args.places (state b) (its b) b.args.update (values b) (defined x.before) x.is_stored-stored.result (stored x) c.if-not-update.true
+    c.if-stored.true
 
-cells-fault-requires : tie.Need-cells-fault-requires
+cells-fault-requires : tie.Need-cells_fault-f-requires
 cells-fault-requires c κs =
     let b = start (read c.before) in
-    (laid_out_lem b, b.pre.1)
+    (laid_out_lem b, b.requires.1)
 
-is-accepted-requires : tie.Need-is-accepted-requires
+is-accepted-requires : tie.Need-is_accepted-requires
 is-accepted-requires c κs = search rules
 
-returns-3 : tie.Need-returns-3
+returns-3 : tie.Need-returns-then-not-is_accepted
 returns-3 c =
     let f = c.before.before in
     let j = f.before in
     let x = j.before in
     let b = start (read x) in
-    cells-refuse b.args.p b.args.places (state b) (its b) b.args.update (values b) (defined x.before) x.is-stored.result (stored x) (allowed j)
-    f.cells-fault.result
-    f.cells-fault.ensures
-    (sym c.before.is-accepted.ensures ∙ not-true _ c.if4.true)
+    cells-refuse b.args.p b.args.places (state b) (its b) b.args.update (values b) (defined x.before) x.is_stored-stored.result (stored x) (allowed j)
+    f.cells_fault-f.result
+    f.cells_fault-f.ensures
+    (sym c.is_accepted.ensures ∙ not-true _ c.if-not-is_accepted.true)
 
-place-fault-requires : tie.Need-place-fault-requires
+place-fault-requires : tie.Need-place_fault-requires
 place-fault-requires c κs = laid_out_lem (start (read c.before.before.before.before))
 
-returns-4 : tie.Need-returns-4
+returns-4 : tie.Need-returns
 returns-4 c =
     let d = c.before in
     let f = d.before.before in
     let j = f.before in
     let x = j.before in
     let b = start (read x) in
-    place-decides b.args.p b.args.places (state b) (its b) b.args.update (values b) (defined x.before) x.is-stored.result (stored x) (allowed j)
-    f.cells-fault.result
-    f.cells-fault.ensures
-    (sym d.before.is-accepted.ensures ∙ not-false _ d.if4.false)
-    c.place-fault.result
-    c.place-fault.ensures
+    place-decides b.args.p b.args.places (state b) (its b) b.args.update (values b) (defined x.before) x.is_stored-stored.result (stored x) (allowed j)
+    f.cells_fault-f.result
+    f.cells_fault-f.ensures
+    (sym d.is_accepted.ensures ∙ not-false _ d.if-not-is_accepted.false)
+    c.place_fault.result
+    c.place_fault.ensures
 
-pub validate-row-spec : {M : Type 1} → statement M
-validate-row-spec =
+pub validate_row_spec : {M : Type 1} → statement M
+validate_row_spec =
     tie.close
     (tie.spec
     table-record-requires

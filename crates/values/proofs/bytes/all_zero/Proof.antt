@@ -9,39 +9,39 @@ use Rattle.values.proofs.Scans.{zero-stop, zero-next, zero-end}
 use Rattle.values.proofs.bytes.all_zero.Statement.{statement}
 use Rattle.values.proofs.bytes.all_zero.Tie as tie
 
-abbrev invariant-loop : tie.invariant-loop
+abbrev invariant-loop : tie.invariant-loop-i
 invariant-loop s i₀ i = (i ≤ length s) × (zeros s ≡ zeros (drop i s))
 
-abbrev decreases-loop : tie.decreases-loop
+abbrev decreases-loop : tie.decreases-loop-i
 decreases-loop s i₀ i = length s - i
 
-loop-holds : tie.Need-loop-init invariant-loop decreases-loop
+loop-holds : tie.Need-loop-i-init invariant-loop decreases-loop
 loop-holds c = (search rules, refl)
 
-shared-slice-read-if1 : tie.Need-shared-slice-read-if1 invariant-loop decreases-loop
+shared-slice-read-if1 : tie.Need-bounds-s-i invariant-loop decreases-loop
 shared-slice-read-if1 c = omega arith
 
-returns : tie.Need-returns invariant-loop decreases-loop
+returns : tie.Need-returns-then-s-i-ne0 invariant-loop decreases-loop
 returns c =
     let l = c.before.before.before in
-    sym (l.loop.invariant.1 ∙ zero-stop _ _ c.before.before.loop-test.true c.if1.true)
+    sym (l.loop-i.invariant.1 ∙ zero-stop _ _ c.loop-i-test.true c.if-s-i-ne0.true)
 
-add-i : tie.Need-overflow-add-i invariant-loop decreases-loop
+add-i : tie.Need-overflow_add-i invariant-loop decreases-loop
 add-i c = omega arith
 
-loop-less : tie.Need-loop-smaller invariant-loop decreases-loop
+loop-less : tie.Need-loop-i-smaller invariant-loop decreases-loop
 loop-less c = omega arith
 
-loop-again : tie.Need-loop-preserved invariant-loop decreases-loop
+loop-again : tie.Need-loop-i-preserved invariant-loop decreases-loop
 loop-again c =
     let l = c.before.before.before in
-    (omega arith, l.loop.invariant.1 ∙ zero-next _ _ c.before.before.loop-test.true c.if1.false)
+    (omega arith, l.loop-i.invariant.1 ∙ zero-next _ _ c.loop-i-test.true c.if-s-i-ne0.false)
 
-returns-2 : tie.Need-returns-2 invariant-loop decreases-loop
-returns-2 c = sym (c.before.loop.invariant.1 ∙ zero-end _ _ c.loop-test.false)
+returns-2 : tie.Need-returns invariant-loop decreases-loop
+returns-2 c = sym (c.loop-i.invariant.1 ∙ zero-end _ _ c.loop-i-test.false)
 
-pub all-zero-spec : {M : Type 1} → statement M
-all-zero-spec =
+pub all_zero_spec : {M : Type 1} → statement M
+all_zero_spec =
     tie.close
     (tie.spec
     invariant-loop

@@ -13,41 +13,41 @@ use Rattle.values.proofs.bytes.clear.Tie as tie
 use Rattle.values.proofs.bytes.clear.Reads as reads
 use Rattle.values.proofs.bytes.clear.Lts as lts
 
-abbrev invariant-loop : tie.invariant-loop
+abbrev invariant-loop : tie.invariant-loop-i
 invariant-loop s₀ from to i₀ s i = (from ≤ i) × (i ≤ to) × (s ≡ cleared from i s₀) × (length s ≡ length s₀)
 
-abbrev decreases-loop : tie.decreases-loop
+abbrev decreases-loop : tie.decreases-loop-i
 decreases-loop s₀ from to i₀ s i = to - i
 
-loop-holds : tie.Need-loop-init invariant-loop decreases-loop
+loop-holds : tie.Need-loop-i-init invariant-loop decreases-loop
 loop-holds c = (omega arith, omega arith, cleared-start _ _, refl)
 
-slice-write-s : tie.Need-slice-write-s invariant-loop decreases-loop
+slice-write-s : tie.Need-bounds-s-i invariant-loop decreases-loop
 slice-write-s c = omega arith
 
-add-i : tie.Need-overflow-add-i invariant-loop decreases-loop
+add-i : tie.Need-overflow_add-i invariant-loop decreases-loop
 add-i c = omega arith
 
-loop-less : tie.Need-loop-smaller invariant-loop decreases-loop
+loop-less : tie.Need-loop-i-smaller invariant-loop decreases-loop
 loop-less c = omega arith
 
-loop-again : tie.Need-loop-preserved invariant-loop decreases-loop
+loop-again : tie.Need-loop-i-preserved invariant-loop decreases-loop
 loop-again c =
-    let a = c.before.before.args in
-    let v = c.before.loop in (
+    let a = c.args in
+    let v = c.loop-i in (
       omega arith,
       omega arith,
       ap (λ (l : List ℕ). set l v.i 0) v.invariant.2 ∙ rw add-one (cleared-step a.from v.i a.s.now v.invariant.0 (omega arith)),
       simp length-set (omega arith),
     )
 
-same_length : tie.Need-same-length invariant-loop decreases-loop
+same_length : tie.Need-shape_of-s invariant-loop decreases-loop
 same_length c = search rules
 
 returns : tie.Need-returns invariant-loop decreases-loop
 returns c =
-    let v = c.before.loop in
-    let e : v.i ≡ c.before.before.args.to = omega arith in
+    let v = c.loop-i in
+    let e : v.i ≡ c.args.to = omega arith in
     rw (← e) v.invariant.2
 
 pub clear_spec : {M : Type 1} → statement M

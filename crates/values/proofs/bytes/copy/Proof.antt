@@ -13,45 +13,45 @@ use Rattle.values.proofs.bytes.copy.Tie as tie
 use Rattle.values.proofs.bytes.copy.Reads as reads
 use Rattle.values.proofs.bytes.copy.Lts as lts
 
-abbrev invariant-loop : tie.invariant-loop
+abbrev invariant-loop : tie.invariant-loop-i
 invariant-loop dst₀ src i₀ dst i = (i ≤ length src) × (dst ≡ take i src ++ drop i dst₀) × (length dst ≡ length dst₀)
 
-abbrev decreases-loop : tie.decreases-loop
+abbrev decreases-loop : tie.decreases-loop-i
 decreases-loop dst₀ src i₀ dst i = length src - i
 
-loop-holds : tie.Need-loop-init invariant-loop decreases-loop
+loop-holds : tie.Need-loop-i-init invariant-loop decreases-loop
 loop-holds c = (omega arith, refl, refl)
 
-shared-slice-read-dst : tie.Need-shared-slice-read-dst invariant-loop decreases-loop
+shared-slice-read-dst : tie.Need-bounds-src-i invariant-loop decreases-loop
 shared-slice-read-dst c = omega arith
 
-slice-write-dst : tie.Need-slice-write-dst invariant-loop decreases-loop
+slice-write-dst : tie.Need-bounds-dst-i invariant-loop decreases-loop
 slice-write-dst c = omega arith
 
-add-i : tie.Need-overflow-add-i invariant-loop decreases-loop
+add-i : tie.Need-overflow_add-i invariant-loop decreases-loop
 add-i c = omega arith
 
-loop-less : tie.Need-loop-smaller invariant-loop decreases-loop
+loop-less : tie.Need-loop-i-smaller invariant-loop decreases-loop
 loop-less c = omega arith
 
-loop-again : tie.Need-loop-preserved invariant-loop decreases-loop
+loop-again : tie.Need-loop-i-preserved invariant-loop decreases-loop
 loop-again c =
-    let a = c.before.before.before.args in
-    let v = c.before.before.loop in (
+    let a = c.args in
+    let v = c.loop-i in (
       omega arith,
       ap (λ (l : List ℕ). set l v.i (get_or a.src.now v.i 0)) v.invariant.1 ∙ rw add-one (copy_step a.src.now a.dst.now v.i (omega arith) (omega arith)),
       simp length-set (omega arith),
     )
 
-same_length : tie.Need-same-length invariant-loop decreases-loop
+same_length : tie.Need-shape_of-dst invariant-loop decreases-loop
 same_length c = search rules
 
 returns : tie.Need-returns invariant-loop decreases-loop
 returns c =
-    let v = c.before.loop in
-    let a = c.before.before.args in
+    let v = c.loop-i in
+    let a = c.args in
     let e : v.i ≡ length a.src.now = omega arith in
-    v.invariant.1 ∙ copied a.src.now a.dst.now v.i e c.before.before.requires
+    v.invariant.1 ∙ copied a.src.now a.dst.now v.i e c.requires
 
 pub copy_spec : {M : Type 1} → statement M
 copy_spec = tie.close (tie.spec invariant-loop decreases-loop loop-holds shared-slice-read-dst slice-write-dst add-i loop-less loop-again same_length returns)

@@ -10,58 +10,58 @@ use Rattle.values.proofs.bytes.same_bytes.Tie as tie
 use Rattle.values.proofs.bytes.same_bytes.Reads as reads
 use Rattle.values.proofs.bytes.same_bytes.Lts as lts
 
-abbrev invariant-loop : tie.invariant-loop
+abbrev invariant-loop : tie.invariant-loop-i
 invariant-loop a b i₀ i = (i ≤ length a) × (leqb a b ≡ leqb (drop i a) (drop i b))
 
-abbrev decreases-loop : tie.decreases-loop
+abbrev decreases-loop : tie.decreases-loop-i
 decreases-loop a b i₀ i = length a - i
 
 -- src/lib.rt:159:9
-returns : tie.Need-returns invariant-loop decreases-loop
-returns c = sym (same-long _ _ c.if1.true)
+returns : tie.Need-returns-then-a-b invariant-loop decreases-loop
+returns c = sym (same-long _ _ c.if-a-b.true)
 
 -- src/lib.rt:162:5
-loop-holds : tie.Need-loop-init invariant-loop decreases-loop
+loop-holds : tie.Need-loop-i-init invariant-loop decreases-loop
 loop-holds c = (search rules, refl)
 
 -- src/lib.rt:163:12
-shared-slice-read-if2 : tie.Need-shared-slice-read-if2 invariant-loop decreases-loop
+shared-slice-read-if2 : tie.Need-bounds-a-i invariant-loop decreases-loop
 shared-slice-read-if2 c = omega arith
 
 -- src/lib.rt:163:20
-shared-slice-read-if2-2 : tie.Need-shared-slice-read-if2-2 invariant-loop decreases-loop
+shared-slice-read-if2-2 : tie.Need-bounds-b-i invariant-loop decreases-loop
 shared-slice-read-if2-2 c = omega arith
 
 -- src/lib.rt:164:13
-returns-2 : tie.Need-returns-2 invariant-loop decreases-loop
+returns-2 : tie.Need-returns-then-a-i invariant-loop decreases-loop
 returns-2 c =
     let l = c.before.before.before.before in
-    let k : l.loop.i < length l.before.before.args.b.now = omega arith in
-    sym (l.loop.invariant.1 ∙ same_stop _ _ _ c.before.before.before.loop-test.true k c.if2.true)
+    let k : l.loop-i.i < length l.args.b.now = omega arith in
+    sym (l.loop-i.invariant.1 ∙ same_stop _ _ _ c.loop-i-test.true k c.if-a-i.true)
 
 -- src/lib.rt:166:9
-add-i : tie.Need-overflow-add-i invariant-loop decreases-loop
+add-i : tie.Need-overflow_add-i invariant-loop decreases-loop
 add-i c = omega arith
 
 -- src/lib.rt:162:5
-loop-less : tie.Need-loop-smaller invariant-loop decreases-loop
+loop-less : tie.Need-loop-i-smaller invariant-loop decreases-loop
 loop-less c = omega arith
 
 -- src/lib.rt:162:5
-loop-again : tie.Need-loop-preserved invariant-loop decreases-loop
+loop-again : tie.Need-loop-i-preserved invariant-loop decreases-loop
 loop-again c =
     let l = c.before.before.before.before in
-    let k : l.loop.i < length l.before.before.args.b.now = omega arith in
-    (omega arith, l.loop.invariant.1 ∙ same_next _ _ _ c.before.before.before.loop-test.true k c.if2.false)
+    let k : l.loop-i.i < length l.args.b.now = omega arith in
+    (omega arith, l.loop-i.invariant.1 ∙ same_next _ _ _ c.loop-i-test.true k c.if-a-i.false)
 
 -- src/lib.rt:155:1
-returns-3 : tie.Need-returns-3 invariant-loop decreases-loop
+returns-3 : tie.Need-returns invariant-loop decreases-loop
 returns-3 c =
-    let k : length c.before.before.before.args.b.now ≤ c.before.loop.i = omega arith in
-    sym (c.before.loop.invariant.1 ∙ same_end _ _ _ c.loop-test.false k)
+    let k : length c.args.b.now ≤ c.loop-i.i = omega arith in
+    sym (c.loop-i.invariant.1 ∙ same_end _ _ _ c.loop-i-test.false k)
 
-pub same-bytes-spec : {M : Type 1} → statement M
-same-bytes-spec =
+pub same_bytes_spec : {M : Type 1} → statement M
+same_bytes_spec =
     tie.close
     (tie.spec
     invariant-loop

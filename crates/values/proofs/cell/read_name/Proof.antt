@@ -8,50 +8,50 @@ use borrow.Author.Rules.{rules}
 use Rattle.values.proofs.cell.read_name.Statement.{statement}
 use Rattle.values.proofs.cell.read_name.Tie as tie
 
-shared-slice-read-n : tie.Need-shared-slice-read-n
+shared-slice-read-n : tie.Need-bounds-s-0
 shared-slice-read-n c = search rules
 
-cast-n : tie.Need-overflow-cast-n
-cast-n c = omega (arith, c.shared-slice-known2.given 0)
+cast-n : tie.Need-overflow_cast-n
+cast-n c = omega (arith, c.shared_slice_known-2-1.given 0)
 
-sub-text-of : tie.Need-overflow-sub-text-of
+sub-text-of : tie.Need-slice_bounds-text_of-count
 sub-text-of c = search rules
 
-part-text-of-start : tie.Need-slice-bounds-text-of-start
+part-text-of-start : tie.Need-slice_bounds-text_of-start
 part-text-of-start c = search rules
 
-part-text-of-end : tie.Need-slice-bounds-text-of-end
+part-text-of-end : tie.Need-slice_bounds-text_of-end
 part-text-of-end c = search rules
 
-text-of-requires : tie.Need-text-of-requires
+text-of-requires : tie.Need-text_of-requires
 text-of-requires c κs = search rules
 
-returns : tie.Need-returns
-returns c = (c.text_of.ensures.0 ∙ sym (name-clipped c.before.before.before.before.before.args.s.now (search rules)), c.text_of.ensures.1)
+returns : tie.Need-returns-then-n-gt-TEXT_MOST
+returns c = (c.text_of.ensures.0 ∙ sym (name-clipped c.args.s.now (search rules)), c.text_of.ensures.1)
 
-add-end : tie.Need-overflow-add-end
+add-end : tie.Need-overflow_add-end
 add-end c = search rules
 
-sub-text-of-2 : tie.Need-overflow-sub-text-of-2
+sub-text-of-2 : tie.Need-slice_bounds-text_of-count-2
 sub-text-of-2 c = search rules
 
-part-text-of-start-2 : tie.Need-slice-bounds-text-of-start-2
+part-text-of-start-2 : tie.Need-slice_bounds-text_of-start-2
 part-text-of-start-2 c = search rules
 
-part-text-of-end-2 : tie.Need-slice-bounds-text-of-end-2
+part-text-of-end-2 : tie.Need-slice_bounds-text_of-end-2
 part-text-of-end-2 c = search rules
 
-text-of-requires-2 : tie.Need-text-of-requires-2
+text-of-requires-2 : tie.Need-text_of-requires-2
 text-of-requires-2 c κs = search rules
 
-returns-2 : tie.Need-returns-2
+returns-2 : tie.Need-returns
 returns-2 c =
-    let s = c.before.before.before.before.before.args.s.now in
+    let s = c.args.s.now in
     let e : get_or s 0 0 + 1 - 1 ≡ get_or s 0 0 = omega arith in
-    (c.text-of2.ensures.0 ∙ ap (λ (n : ℕ). take n (drop 1 s)) e ∙ sym (name-whole s (search rules)), c.text-of2.ensures.1)
+    (c.text_of-2.ensures.0 ∙ ap (λ (n : ℕ). take n (drop 1 s)) e ∙ sym (name-whole s (search rules)), c.text_of-2.ensures.1)
 
-pub read-name-spec : {M : Type 1} → statement M
-read-name-spec =
+pub read_name_spec : {M : Type 1} → statement M
+read_name_spec =
     tie.close
     (tie.spec
     shared-slice-read-n

@@ -12,43 +12,43 @@ use Rattle.values.proofs.cell.write_word.Statement.{statement}
 use Rattle.values.proofs.cell.write_word.Tie as tie
 
 -- the slice after the kind, after the word and after the zeros; what it then starts with
-abbrev x1 : tie.After-slice-known → List ℕ
-x1 c = set (set c.before.args.out.now 0 c.before.args.kind) 1 0
+abbrev x1 : tie.After-slice_known-1 → List ℕ
+x1 c = set (set c.args.out.now 0 c.args.kind) 1 0
 
-abbrev p1 : tie.After-slice-known → List ℕ
-p1 c = c.before.args.kind ∷ 0 ∷ []
+abbrev p1 : tie.After-slice_known-1 → List ℕ
+p1 c = c.args.kind ∷ 0 ∷ []
 
-at1 : (c : tie.After-slice-known) → Starts 26 (p1 c) (x1 c)
-at1 c = two 26 c.before.args.kind 0 c.before.args.out.now c.before.requires (search rules)
+at1 : (c : tie.After-slice_known-1) → Starts 26 (p1 c) (x1 c)
+at1 c = two 26 c.args.kind 0 c.args.out.now c.requires (search rules)
 
-abbrev from2 : tie.After-clear-arg → tie.After-slice-known
+abbrev from2 : tie.After-clear-arg-1 → tie.After-slice_known-1
 from2 c = c.before.before.before.before.before
 
-abbrev x2 : tie.After-clear-arg → List ℕ
-x2 c = put_mid 2 8 (x1 (from2 c)) c.before.before.before.put.new.0
+abbrev x2 : tie.After-clear-arg-1 → List ℕ
+x2 c = put_mid 2 8 (x1 (from2 c)) c.put.new.out
 
-abbrev p2 : tie.After-clear-arg → List ℕ
-p2 c = p1 (from2 c) ++ be 8 (from2 c).before.args.w []
+abbrev p2 : tie.After-clear-arg-1 → List ℕ
+p2 c = p1 (from2 c) ++ be 8 (from2 c).args.w []
 
-at2 : (c : tie.After-clear-arg) → Starts 26 (p2 c) (x2 c)
-at2 c = fill-be 26 2 8 (from2 c).before.args.w (p1 (from2 c)) (x1 (from2 c)) c.before.before.before.put.new.0 (at1 (from2 c)) refl (search rules) c.before.before.before.put.ensures
+at2 : (c : tie.After-clear-arg-1) → Starts 26 (p2 c) (x2 c)
+at2 c = fill-be 26 2 8 (from2 c).args.w (p1 (from2 c)) (x1 (from2 c)) c.put.new.out (at1 (from2 c)) refl (search rules) c.put.ensures
 
-abbrev from3 : tie.After-slice-known3 → tie.After-clear-arg
+abbrev from3 : tie.After-slice_known-3-1 → tie.After-clear-arg-1
 from3 c = c.before.before.before
 
-slice-write-out : tie.Need-slice-write-out
+slice-write-out : tie.Need-bounds-out-0
 slice-write-out c = search rules
 
-slice-write-out-2 : tie.Need-slice-write-out-2
+slice-write-out-2 : tie.Need-bounds-out-1
 slice-write-out-2 c = search rules
 
-sub-put : tie.Need-overflow-sub-put
+sub-put : tie.Need-slice_bounds-put-count
 sub-put c = search rules
 
-part-put-start : tie.Need-slice-bounds-put-start
+part-put-start : tie.Need-slice_bounds-put-start
 part-put-start c = search rules
 
-part-put-end : tie.Need-slice-bounds-put-end
+part-put-end : tie.Need-slice_bounds-put-end
 part-put-end c = omega (arith, (at1 c).long)
 
 put-requires : tie.Need-put-requires
@@ -58,22 +58,22 @@ clear-requires : tie.Need-clear-requires
 clear-requires c κs = omega (arith, (at2 c).long)
 
 -- all of it
-written : (c : tie.After-slice-known3) → c.before.before.clear.new.0 ≡ (from2 (from3 c)).before.args.kind ∷ 0 ∷ be 8 (from2 (from3 c)).before.args.w (replicate 16 0)
+written : (c : tie.After-slice_known-3-1) → c.clear.new.s ≡ (from2 (from3 c)).args.kind ∷ 0 ∷ be 8 (from2 (from3 c)).args.w (replicate 16 0)
 unfolding be
 written c =
-    let a = (from2 (from3 c)).before.args in
-    c.before.before.clear.ensures ∙ fill-zeros 26 10 (p2 (from3 c)) (x2 (from3 c)) (at2 (from3 c)) refl
+    let a = (from2 (from3 c)).args in
+    c.clear.ensures ∙ fill-zeros 26 10 (p2 (from3 c)) (x2 (from3 c)) (at2 (from3 c)) refl
     ∙ ap (λ (l : List ℕ). a.kind ∷ 0 ∷ l) (sym (be-append 8 a.w [] (replicate 16 0)))
 
-same_length : tie.Need-same-length
+same_length : tie.Need-shape_of-out
 unfolding be
-same_length c = ap length (written c) ∙ sym (from2 (from3 c)).before.requires
+same_length c = ap length (written c) ∙ sym (from2 (from3 c)).requires
 
 returns : tie.Need-returns
 returns c = written c
 
-pub write-word-spec : {M : Type 1} → statement M
-write-word-spec =
+pub write_word_spec : {M : Type 1} → statement M
+write_word_spec =
     tie.close
     (tie.spec
     slice-write-out

@@ -16,142 +16,142 @@ use Rattle.values.proofs.Compared.{by_kind, no_arm, nulls, booleans, integers, f
 use Rattle.values.proofs.value.compare.Tie as tie
 use Rattle.values.proofs.value.compare.Statement.{statement}
 
-datatype-requires : tie.Need-datatype-requires
+datatype-requires : tie.Need-datatype-k-requires
 datatype-requires c κs = search rules
 
-datatype-requires-2 : tie.Need-datatype-requires-2
+datatype-requires-2 : tie.Need-datatype-l-requires
 datatype-requires-2 c κs = search rules
 
-cast-compare-words : tie.Need-overflow-cast-compare-words
+cast-compare-words : tie.Need-overflow_cast-k
 cast-compare-words c = search rules
 
-cast-compare-words-2 : tie.Need-overflow-cast-compare-words-2
+cast-compare-words-2 : tie.Need-overflow_cast-l
 cast-compare-words-2 c = search rules
 
-compare-words-requires : tie.Need-compare-words-requires
+compare-words-requires : tie.Need-compare_words-requires
 compare-words-requires c κs = search rules
 
 -- past the first test the kinds are the same
-same_kind : (c : tie.Else1) → kind_of (meaning c.before.before.before.args.v) ≡ kind_of (meaning c.before.before.before.args.w)
-same_kind c = sym c.before.before.datatype.ensures ∙ c.if1.false ∙ c.before.datatype2.ensures
+same_kind : (c : tie.Else-k-l) → kind_of (meaning c.args.v) ≡ kind_of (meaning c.args.w)
+same_kind c = sym c.datatype-k.ensures ∙ c.if-k-l.false ∙ c.datatype-l.ensures
 
 -- so the `_` of a match on the second value, which is for other kinds, is never taken
-off : (ks : List ℕ) (c : tie.Else1) {u : D.Value} → c.before.before.before.args.v ≡ u → T (not (has_key ks (kind_of (meaning u))))
-    → OneOf ks (tag_of the_type c.before.before.before.args.w) → ⊥
-off ks c {u} e n o = no_arm ks (kind_of (meaning u)) c.before.before.before.args.w n (ap (λ (x : D.Value). kind_of (meaning x)) (sym e) ∙ same_kind c) o
+off : (ks : List ℕ) (c : tie.Else-k-l) {u : D.Value} → c.args.v ≡ u → T (not (has_key ks (kind_of (meaning u))))
+    → OneOf ks (tag_of the_type c.args.w) → ⊥
+off ks c {u} e n o = no_arm ks (kind_of (meaning u)) c.args.w n (ap (λ (x : D.Value). kind_of (meaning x)) (sym e) ∙ same_kind c) o
 
-returns : tie.Need-returns
+returns : tie.Need-returns-then-k-l
 returns c =
     let b = c.before.before in
-    let d = b.before.datatype.ensures in
-    let e = b.datatype2.ensures in
-    by_kind _ _ _ (λ h. c.before.if1.true (d ∙ h ∙ sym e)) (c.compare-words.ensures ∙ rw (d, e))
+    let d = b.datatype-k.ensures in
+    let e = b.datatype-l.ensures in
+    by_kind _ _ _ (λ h. c.if-k-l.true (d ∙ h ∙ sym e)) (c.compare_words.ensures ∙ rw (d, e))
 
-enum_told : tie.Need-enum-told
+enum_told : tie.Need-enum_told-1
 enum_told c = search rules
 
-enum-known-v : tie.Need-enum-known-v
+enum-known-v : tie.Need-enum_known-v
 enum-known-v c = search rules
 
-enum-known-w : tie.Need-enum-known-w
+enum-known-w : tie.Need-enum_known-w
 enum-known-w c = search rules
 
-compare-booleans-requires : tie.Need-compare-booleans-requires
+compare-booleans-requires : tie.Need-compare_booleans-requires
 compare-booleans-requires c κs = search rules
 
-enum-known-v-2 : tie.Need-enum-known-v-2
+enum-known-v-2 : tie.Need-enum_known-v-in-Integer-1
 enum-known-v-2 c = search rules
 
-enum-known-w-2 : tie.Need-enum-known-w-2
+enum-known-w-2 : tie.Need-enum_known-w-in-Integer
 enum-known-w-2 c = search rules
 
-compare-integers-requires : tie.Need-compare-integers-requires
+compare-integers-requires : tie.Need-compare_integers-requires
 compare-integers-requires c κs = search rules
 
-enum-known-v-3 : tie.Need-enum-known-v-3
+enum-known-v-3 : tie.Need-enum_known-v-in-Float-1
 enum-known-v-3 c = search rules
 
-enum-known-w-3 : tie.Need-enum-known-w-3
+enum-known-w-3 : tie.Need-enum_known-w-in-Float
 enum-known-w-3 c = search rules
 
-signed-bits-requires : tie.Need-signed-bits-requires
+signed-bits-requires : tie.Need-signed_bits-requires
 signed-bits-requires c κs = search rules
 
-signed-bits-requires-2 : tie.Need-signed-bits-requires-2
+signed-bits-requires-2 : tie.Need-signed_bits-requires-in-Float-w
 signed-bits-requires-2 c κs = search rules
 
-compare-integers-requires-2 : tie.Need-compare-integers-requires-2
+compare-integers-requires-2 : tie.Need-compare_integers-requires-in-Float-w
 compare-integers-requires-2 c κs = search rules
 
-enum-known-v-4 : tie.Need-enum-known-v-4
+enum-known-v-4 : tie.Need-enum_known-v-in-Text-1
 enum-known-v-4 c = search rules
 
-enum-known-w-4 : tie.Need-enum-known-w-4
+enum-known-w-4 : tie.Need-enum_known-w-in-Text
 enum-known-w-4 c = search rules
 
-compare-texts-requires : tie.Need-compare-texts-requires
+compare-texts-requires : tie.Need-compare_texts-requires
 unfolding Proper
 compare-texts-requires c κs =
-    let d = c.before.before.before.before in
-    let a = d.before.before.before.before.before in
-    (subst Proper d.v4.given.1 a.requires.0, subst Proper c.before.w4.given.1 a.requires.1)
+    let d = c.before in
+    let a = d.before.before.before.before in
+    (subst Proper d.in-Text.is a.requires.0, subst Proper c.in-Text-w.is a.requires.1)
 
-returns-2 : tie.Need-returns-2
-returns-2 c = nulls _ _ c.enum_told.given.1 (same_kind c.before.before)
+returns-2 : tie.Need-returns-in-Null
+returns-2 c = nulls _ _ c.in-Null.is (same_kind c.before)
 
-returns-3 : tie.Need-returns-3
+returns-3 : tie.Need-returns-in-Boolean-w
 returns-3 c =
-    let m = c.before.before.before.before.before.v.given in
-    let k = c.before.before.w.given in
-    booleans _ _ _ m.0.0 k.0.0 m.1 k.1 c.compare-booleans.ensures
+    let m = c in
+    let k = c in
+    booleans _ _ _ m.in-Boolean.x k.in-Boolean-w.y m.in-Boolean.is k.in-Boolean-w.is c.compare_booleans.ensures
 
-returns-4 : tie.Need-returns-4
+returns-4 : tie.Need-returns-in_default
 unfolding meaning
 returns-4 c =
-    let b = c.before.before in
-    absurd (off (0 ∷ 2 ∷ 3 ∷ 4 ∷ []) b.before.before b.v.given.1 tt c.match2.keys2)
+    let b = c.before in
+    absurd (off (0 ∷ 2 ∷ 3 ∷ 4 ∷ []) b.before b.in-Boolean.is tt c.in_default.in_default-own.keys2)
 
-returns-5 : tie.Need-returns-5
+returns-5 : tie.Need-returns-in-Integer-w
 returns-5 c =
-    let m = c.before.before.before.before.before.v2.given in
-    let k = c.before.before.w2.given in
-    integers _ _ _ m.0.0 k.0.0 m.1 k.1 (record { sfits = c.before.before.before.before.known-told3.given.0.1 })
-    (record { sfits = c.before.known-told4.given.0.1 }) c.compare-integers.ensures
+    let m = c in
+    let k = c in
+    integers _ _ _ m.in-Integer.x k.in-Integer-w.y m.in-Integer.is k.in-Integer-w.is (record { sfits = c.in-Integer.known_told-in-Integer-1-own.given.0.1 })
+    (record { sfits = c.in-Integer-w.known_told-in-Integer-1-own.given.0.1 }) c.compare_integers.ensures
 
-returns-6 : tie.Need-returns-6
+returns-6 : tie.Need-returns-in_default-w
 unfolding meaning
 returns-6 c =
-    let b = c.before.before in
-    absurd (off (0 ∷ 1 ∷ 3 ∷ 4 ∷ []) b.before.before b.v2.given.1 tt c.match3.keys2)
+    let b = c.before in
+    absurd (off (0 ∷ 1 ∷ 3 ∷ 4 ∷ []) b.before b.in-Integer.is tt c.in_default-w.in_default-w-own.keys2)
 
-returns-7 : tie.Need-returns-7
+returns-7 : tie.Need-returns-in-Float-w
 returns-7 c =
     let b = c.before.before in
-    let m = b.before.before.before.before.before.v3.given in
-    let k = b.before.before.w3.given in
-    floats _ _ _ m.0.0 k.0.0 _ _ m.1 k.1 b.signed-bits.ensures c.before.signed-bits2.ensures (record { sfits = b.signed-bits.type-inv })
-    (record { sfits = c.before.signed-bits2.type-inv }) c.compare-integers2.ensures
+    let m = b in
+    let k = b in
+    floats _ _ _ m.in-Float.x k.in-Float-w.y _ _ m.in-Float.is k.in-Float-w.is b.signed_bits.ensures c.signed_bits-in-Float-w.ensures (record { sfits = b.signed_bits.type_inv })
+    (record { sfits = c.signed_bits-in-Float-w.type_inv }) c.compare_integers-in-Float-w.ensures
 
-returns-8 : tie.Need-returns-8
+returns-8 : tie.Need-returns-in_default-w-2
 unfolding meaning
 returns-8 c =
-    let b = c.before.before in
-    absurd (off (0 ∷ 1 ∷ 2 ∷ 4 ∷ []) b.before.before b.v3.given.1 tt c.match4.keys2)
+    let b = c.before in
+    absurd (off (0 ∷ 1 ∷ 2 ∷ 4 ∷ []) b.before b.in-Float.is tt c.in_default-w-2.in_default-w-2-own.keys2)
 
-returns-9 : tie.Need-returns-9
+returns-9 : tie.Need-returns-in-Text-w
 returns-9 c =
-    let m = c.before.before.before.before.before.v4.given in
-    let k = c.before.before.w4.given in
-    texts _ _ _ m.0.0 k.0.0 m.1 k.1 c.compare-texts.ensures
+    let m = c in
+    let k = c in
+    texts _ _ _ m.in-Text.x k.in-Text-w.y m.in-Text.is k.in-Text-w.is c.compare_texts.ensures
 
-returns-10 : tie.Need-returns-10
+returns-10 : tie.Need-returns-in_default-w-3
 unfolding meaning
 returns-10 c =
-    let b = c.before.before in
-    absurd (off (0 ∷ 1 ∷ 2 ∷ 3 ∷ []) b.before.before b.v4.given.1 tt c.match5.keys2)
+    let b = c.before in
+    absurd (off (0 ∷ 1 ∷ 2 ∷ 3 ∷ []) b.before b.in-Text.is tt c.in_default-w-3.in_default-w-3-own.keys2)
 
-pub compare-spec : {M : Type 1} → statement M
-compare-spec =
+pub compare_spec : {M : Type 1} → statement M
+compare_spec =
     tie.close
     (tie.spec
     datatype-requires

@@ -2,17 +2,17 @@
 use Rattle.values.proofs.value.compare_booleans.Tie as tie
 use Rattle.values.proofs.value.compare_booleans.Statement.{statement}
 
-returns : tie.Need-returns
-returns c = rw (c.before.if1.true, c.if2.true)
+returns : tie.Need-returns-then-y
+returns c = rw (c.if-x.true, c.if-y.true)
 
-returns-2 : tie.Need-returns-2
-returns-2 c = rw (c.before.if1.true, c.if2.false)
+returns-2 : tie.Need-returns-else-y
+returns-2 c = rw (c.if-x.true, c.if-y.false)
 
-returns-3 : tie.Need-returns-3
-returns-3 c = rw (c.before.if1.false, c.if3.true)
+returns-3 : tie.Need-returns-then-y-2
+returns-3 c = rw (c.if-x.false, c.if-y-2.true)
 
-returns-4 : tie.Need-returns-4
-returns-4 c = rw (c.before.if1.false, c.if3.false)
+returns-4 : tie.Need-returns-else-y-2
+returns-4 c = rw (c.if-x.false, c.if-y-2.false)
 
-pub compare-booleans-spec : {M : Type 1} → statement M
-compare-booleans-spec = tie.close (tie.spec returns returns-2 returns-3 returns-4)
+pub compare_booleans_spec : {M : Type 1} → statement M
+compare_booleans_spec = tie.close (tie.spec returns returns-2 returns-3 returns-4)

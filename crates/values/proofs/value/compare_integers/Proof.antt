@@ -15,22 +15,22 @@ use Rattle.values.proofs.value.compare_integers.Tie as tie
 told : (x y : ℤ) (t : Bool) → SFits w64 x → SFits w64 y → lt_z (to_z w64 (of_z w64 x)) (to_z w64 (of_z w64 y)) ≡ t → is_lt (cmpℤ x y) ≡ t
 told x y t f g h = is-lt_z x y ∙ (rw (to_z-of_z w64 x f, to_z-of_z w64 y g) at h)
 
-returns : tie.Need-returns
+returns : tie.Need-returns-then-x-y
 returns c =
     let a = c.before in
-    sym (lt_at ordℤ a.args.x a.args.y (told _ _ _ a.ranges.x a.ranges.y c.if1.true))
+    sym (lt_at ordℤ a.args.x a.args.y (told _ _ _ a.ranges.x a.ranges.y c.if-x-y.true))
 
-returns-2 : tie.Need-returns-2
+returns-2 : tie.Need-returns-then-y-x
 returns-2 c =
     let a = c.before.before in
-    sym (gt-at ordℤ a.args.x a.args.y (told _ _ _ a.ranges.y a.ranges.x c.if2.true))
+    sym (gt-at ordℤ a.args.x a.args.y (told _ _ _ a.ranges.y a.ranges.x c.if-y-x.true))
 
-returns-3 : tie.Need-returns-3
+returns-3 : tie.Need-returns
 returns-3 c =
     let a = c.before.before in
     sym
-    (eq-at ordℤ a.args.x a.args.y (told _ _ _ a.ranges.x a.ranges.y c.before.if1.false)
-    (told _ _ _ a.ranges.y a.ranges.x c.if2.false))
+    (eq-at ordℤ a.args.x a.args.y (told _ _ _ a.ranges.x a.ranges.y c.if-x-y.false)
+    (told _ _ _ a.ranges.y a.ranges.x c.if-y-x.false))
 
-pub compare-integers-spec : {M : Type 1} → statement M
-compare-integers-spec = tie.close (tie.spec returns returns-2 returns-3)
+pub compare_integers_spec : {M : Type 1} → statement M
+compare_integers_spec = tie.close (tie.spec returns returns-2 returns-3)

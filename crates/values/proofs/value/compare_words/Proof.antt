@@ -5,14 +5,14 @@ use Rattle.values.proofs.Orders.{of_lt, of_eq, of-gt}
 use Rattle.values.proofs.value.compare_words.Statement.{statement}
 use Rattle.values.proofs.value.compare_words.Tie as tie
 
-returns : tie.Need-returns
-returns c = sym (of_lt _ _ c.if1.true)
+returns : tie.Need-returns-then-a-b
+returns c = sym (of_lt _ _ c.if-a-b.true)
 
-returns-2 : tie.Need-returns-2
-returns-2 c = sym (of-gt _ _ c.if2.true)
+returns-2 : tie.Need-returns-then-b-a
+returns-2 c = sym (of-gt _ _ c.if-b-a.true)
 
-returns-3 : tie.Need-returns-3
+returns-3 : tie.Need-returns
 returns-3 c = sym (of_eq _ _ (omega arith))
 
-pub compare-words-spec : {M : Type 1} → statement M
-compare-words-spec = tie.close (tie.spec returns returns-2 returns-3)
+pub compare_words_spec : {M : Type 1} → statement M
+compare_words_spec = tie.close (tie.spec returns returns-2 returns-3)

@@ -7,28 +7,28 @@ use borrow.Author.Rules.{rules}
 use Rattle.walks.proofs.referrer.refers_to.Statement.{statement}
 use Rattle.walks.proofs.referrer.refers_to.Tie as tie
 
-returns : tie.Need-returns
+returns : tie.Need-returns-then-not-c
 returns c =
-    let a = c.before.before.args in
-    refers-not (text_bytes a.name) a.c.references (text_bytes a.c.reference) c.if1.true
+    let a = c.args in
+    refers-not (text_bytes a.name) a.c.references (text_bytes a.c.reference) c.if-not-c.true
 
-compare-texts-requires : tie.Need-compare-texts-requires
+compare-texts-requires : tie.Need-compare_texts-requires
 compare-texts-requires c κs = search rules
 
-enum_told : tie.Need-enum-told
+enum_told : tie.Need-enum_told-1
 enum_told c = search rules
 
-returns-2 : tie.Need-returns-2
+returns-2 : tie.Need-returns-in-Same
 returns-2 c =
-    let m = c.before.before.compare-texts in
-    let a = c.before.before.before.before.before.args in
-    refers-by-name (text_bytes a.name) a.c.references (text_bytes a.c.reference) c.before.before.before.if1.false _ (sym (same-is m.result _ m.ensures c.enum_told.given.1))
+    let m = c.compare_texts in
+    let a = c.args in
+    refers-by-name (text_bytes a.name) a.c.references (text_bytes a.c.reference) c.if-not-c.false _ (sym (same-is m.result _ m.ensures c.in-Same.is))
 
-returns-3 : tie.Need-returns-3
+returns-3 : tie.Need-returns-in_default
 returns-3 c =
-    let m = c.before.compare-texts in
-    let a = c.before.before.before.before.args in
-    refers-by-name (text_bytes a.name) a.c.references (text_bytes a.c.reference) c.before.before.if1.false _ (sym (not_same m.result _ m.ensures c.match.keys2))
+    let m = c.compare_texts in
+    let a = c.args in
+    refers-by-name (text_bytes a.name) a.c.references (text_bytes a.c.reference) c.if-not-c.false _ (sym (not_same m.result _ m.ensures c.in_default.in_default-own.keys2))
 
-pub refers-to-spec : {M : Type 1} → statement M
-refers-to-spec = tie.close (tie.spec returns compare-texts-requires enum_told returns-2 returns-3)
+pub refers_to_spec : {M : Type 1} → statement M
+refers_to_spec = tie.close (tie.spec returns compare-texts-requires enum_told returns-2 returns-3)

@@ -17,19 +17,19 @@ use Rattle.walks.proofs.Searched.{FromTable, FromColumn, FromRow, Hit, AtTable, 
 use Rattle.walks.proofs.referrer.row_references.Statement.{statement}
 use Rattle.walks.proofs.referrer.row_references.Tie as tie
 
-abbrev invariant-loop2 : tie.invariant-loop2
+abbrev invariant-loop2 : tie.invariant-loop-k
 invariant-loop2 s p places name rec at count tables found₀ t k₀ columns table own j rows found k =
     (found ≡ false) × AtTable p places s (text_bytes name) t columns table own × (j < columns) × FromRow p places s (text_bytes name) (values_from rec count at) t j own rows.to k
 
-abbrev decreases-loop2 : tie.decreases-loop2
+abbrev decreases-loop2 : tie.decreases-loop-k
 decreases-loop2 s p places name rec at count tables found₀ t k₀ columns table own j rows found k =
     rows.to - k
 
-abbrev invariant-loop : tie.invariant-loop
+abbrev invariant-loop : tie.invariant-loop-j
 invariant-loop s p places name rec at count tables found₀ t k₀ columns table own j₀ found k j =
     (found ≡ false) × AtTable p places s (text_bytes name) t columns table own × FromColumn p places s (text_bytes name) (values_from rec count at) t j
 
-abbrev decreases-loop : tie.decreases-loop
+abbrev decreases-loop : tie.decreases-loop-j
 decreases-loop s p places name rec at count tables found₀ t k₀ columns table own j₀ found k j =
     columns - j
 
@@ -43,27 +43,27 @@ decreases-search s p places name rec at count tables found₀ t₀ k₀ found t 
 
 -- the table of this turn is stored
 known : (c : tie.In-search invariant-loop2 decreases-loop2 invariant-loop decreases-loop invariant-search decreases-search) →
-    let a = c.before.before.before.before.before.args in
-    c.before.search.t < length (parse a.p a.places a.s.now).tables
+    let a = c.args in
+    c.search.t < length (parse a.p a.places a.s.now).tables
 known c =
-    let a = c.before.before.before.before.before.args in
-    omega (arith, c.search-test.true, c.before.before.table-count.ensures, tables-count a.p a.places a.s.now)
+    let a = c.args in
+    omega (arith, c.search-test.true, c.table_count-tables.ensures, tables-count a.p a.places a.s.now)
 
 -- where something was found, the search was left at its place
-hit : (c : tie.Else4 invariant-loop2 decreases-loop2 invariant-loop decreases-loop invariant-search decreases-search) →
-    let a = c.before.before.before.before.before.before.args in
-    Hit a.p a.places a.s.now (text_bytes a.name) (values_from a.rec.now a.count a.at) c.before.before.search.t c.before.search-test.k
+hit : (c : tie.Else-not-found invariant-loop2 decreases-loop2 invariant-loop decreases-loop invariant-search decreases-search) →
+    let a = c.args in
+    Hit a.p a.places a.s.now (text_bytes a.name) (values_from a.rec.now a.count a.at) c.search.t c.search-test.k
 hit c =
     let b = c.before.before.before.before.before.before in
     let a = b.args in
-    let h = c.before.before.search in
+    let h = c.search in
     ⊎_elim
-    (λ w. absurd (false≢true (sym c.if4.false ∙ ap not (w.1 ∙ h.invariant.0))))
+    (λ w. absurd (false≢true (sym c.if-not-found.false ∙ ap not (w.1 ∙ h.invariant.0))))
     (λ w. rw w.16 (row-hit a.p a.places a.s.now (text_bytes a.name) (values_from a.rec.now a.count a.at) b.requires.0 h.t w.5.j _ _ w.10.k w.10.inv.3 w.12.taken w.10.inv.1.known _ w.13.ensures w.14.taken))
-    c.before.search-test.branch
+    c.search-test.branch-raw
 
 table-count-requires :
-    tie.Need-table-count-requires invariant-loop2 decreases-loop2 invariant-loop decreases-loop invariant-search decreases-search
+    tie.Need-table_count-tables-requires invariant-loop2 decreases-loop2 invariant-loop decreases-loop invariant-search decreases-search
 table-count-requires c κs =
     let b = c.before.before in
     let a = b.args in
@@ -76,124 +76,124 @@ search-holds c =
     (refl, search-start a.p a.places a.s.now (text_bytes a.name) (values_from a.rec.now a.count a.at))
 
 table-record-requires :
-    tie.Need-table-record-requires invariant-loop2 decreases-loop2 invariant-loop decreases-loop invariant-search decreases-search
+    tie.Need-table_record-src-requires invariant-loop2 decreases-loop2 invariant-loop decreases-loop invariant-search decreases-search
 table-record-requires c κs =
     let b = c.before.before.before.before.before in
     let a = b.args in
-    (held-inside a.p a.places a.s.now b.requires.0, start-table a.p a.places a.s.now b.requires.0 c.before.search.t (known c))
+    (held-inside a.p a.places a.s.now b.requires.0, start-table a.p a.places a.s.now b.requires.0 c.search.t (known c))
 
 column-count-requires :
-    tie.Need-column-count-requires invariant-loop2 decreases-loop2 invariant-loop decreases-loop invariant-search decreases-search
+    tie.Need-column_count-columns-requires invariant-loop2 decreases-loop2 invariant-loop decreases-loop invariant-search decreases-search
 column-count-requires c κs =
     let b = c.before.before.before.before.before.before in
     let a = b.args in
-    start-least a.p a.places a.s.now b.requires.0 c.before.before.search.t (known c.before) _ c.table-record.ensures
+    start-least a.p a.places a.s.now b.requires.0 c.search.t (known c.before) _ c.table_record-src.ensures
 
 read-name-requires :
-    tie.Need-read-name-requires invariant-loop2 decreases-loop2 invariant-loop decreases-loop invariant-search decreases-search
+    tie.Need-read_name-table-requires invariant-loop2 decreases-loop2 invariant-loop decreases-loop invariant-search decreases-search
 read-name-requires c κs =
     let b = c.before.before.before.before.before.before.before in
     let a = b.args in
-    omega (arith, start-least a.p a.places a.s.now b.requires.0 c.before.before.before.search.t (known c.before.before) _ c.before.table-record.ensures)
+    omega (arith, start-least a.p a.places a.s.now b.requires.0 c.search.t (known c.before.before) _ c.table_record-src.ensures)
 
 is-named-requires :
-    tie.Need-is-named-requires invariant-loop2 decreases-loop2 invariant-loop decreases-loop invariant-search decreases-search
+    tie.Need-is_named-own-requires invariant-loop2 decreases-loop2 invariant-loop decreases-loop invariant-search decreases-search
 is-named-requires c κs =
     let b = c.before.before.before.before.before.before.before.before in
     let a = b.args in
-    (c.read_name.ensures.1, b.requires.1)
+    (c.read_name-table.ensures.1, b.requires.1)
 
-loop-holds : tie.Need-loop-init invariant-loop2 decreases-loop2 invariant-loop decreases-loop invariant-search decreases-search
+loop-holds : tie.Need-loop-j-init invariant-loop2 decreases-loop2 invariant-loop decreases-loop invariant-search decreases-search
 loop-holds c =
     let b = c.before.before.before.before.before.before.before.before.before in
     let a = b.args in
     let q = c.before.before.before in
-    let h = q.before.before.search in (
+    let h = q.search in (
       h.invariant.0,
-      at_table a.p a.places a.s.now b.requires.0 (text_bytes a.name) h.t (known q.before) _ q.table-record.ensures _ c.before.before.column-count.ensures _ c.before.read_name.ensures.0 c.before.read_name.ensures.1 _ c.is-named.ensures,
+      at_table a.p a.places a.s.now b.requires.0 (text_bytes a.name) h.t (known q.before) _ q.table_record-src.ensures _ c.column_count-columns.ensures _ c.read_name-table.ensures.0 c.read_name-table.ensures.1 _ c.is_named-own.ensures,
       table-first a.p a.places a.s.now (text_bytes a.name) (values_from a.rec.now a.count a.at) h.t (known q.before) h.invariant.1,
     )
 
 is-searched-requires :
-    tie.Need-is-searched-requires invariant-loop2 decreases-loop2 invariant-loop decreases-loop invariant-search decreases-search
+    tie.Need-is_searched-requires invariant-loop2 decreases-loop2 invariant-loop decreases-loop invariant-search decreases-search
 is-searched-requires c κs =
     let b = c.before.before.before.before.before.before.before.before.before.before.before in
     let a = b.args in
-    let h = c.before.loop.invariant in
-    (b.requires.0, h.1.known, omega (arith, h.1.counted, c.loop-test.true), b.requires.1)
+    let h = c.loop-j.invariant in
+    (b.requires.0, h.1.known, omega (arith, h.1.counted, c.loop-j-test.true), b.requires.1)
 
-scan-requires : tie.Need-scan-requires invariant-loop2 decreases-loop2 invariant-loop decreases-loop invariant-search decreases-search
+scan-requires : tie.Need-scan-rows-requires invariant-loop2 decreases-loop2 invariant-loop decreases-loop invariant-search decreases-search
 scan-requires c κs =
     let b = c.before.before.before.before.before.before.before.before.before.before.before.before.before in
     let a = b.args in
-    (b.requires.0, c.before.before.before.loop.invariant.1.packed)
+    (b.requires.0, c.loop-j.invariant.1.packed)
 
-loop2-holds : tie.Need-loop2-init invariant-loop2 decreases-loop2 invariant-loop decreases-loop invariant-search decreases-search
+loop2-holds : tie.Need-loop-k-init invariant-loop2 decreases-loop2 invariant-loop decreases-loop invariant-search decreases-search
 loop2-holds c =
     let b = c.before.before.before.before.before.before.before.before.before.before.before.before.before.before in
     let a = b.args in
     let d = c.before.before.before.before in
-    let h = d.loop in
-    let t = d.before.before.before.before.before.before.search.t in
-    let l = c.before.before.before.loop-test.true in (
+    let h = d.loop-j in
+    let t = d.search.t in
+    let l = c.loop-j-test.true in (
       h.invariant.0,
       h.invariant.1,
       l,
-      column-rows a.p a.places a.s.now (text_bytes a.name) (values_from a.rec.now a.count a.at) t h.j (omega (arith, h.invariant.1.counted, l)) h.invariant.2 _ c.before.before.is-searched.ensures c.before.if1.true _ _ c.scan.ensures h.invariant.1.named _ h.invariant.1.whose,
+      column-rows a.p a.places a.s.now (text_bytes a.name) (values_from a.rec.now a.count a.at) t h.j (omega (arith, h.invariant.1.counted, l)) h.invariant.2 _ c.is_searched.ensures c.if-is_searched.true _ _ c.scan-rows.ensures h.invariant.1.named _ h.invariant.1.whose,
     )
 
 is-referring-requires :
-    tie.Need-is-referring-requires invariant-loop2 decreases-loop2 invariant-loop decreases-loop invariant-search decreases-search
+    tie.Need-is_referring-requires invariant-loop2 decreases-loop2 invariant-loop decreases-loop invariant-search decreases-search
 is-referring-requires c κs =
     let b = c.before.before.before.before.before.before.before.before.before.before.before.before.before.before.before.before.before in
     let a = b.args in
     let e = c.before.before in
-    let k = e.loop2 in
+    let k = e.loop-k in
     let d = e.before.before.before.before.before in
-    let h = d.loop in
-    let t = d.before.before.before.before.before.before.search.t in
-    (b.requires.0, row-of a.p a.places a.s.now (text_bytes a.name) (values_from a.rec.now a.count a.at) b.requires.0 t h.j _ _ k.k k.invariant.3 c.if2.true k.invariant.1.known, omega (arith, k.invariant.1.counted, k.invariant.2))
+    let h = d.loop-j in
+    let t = d.search.t in
+    (b.requires.0, row-of a.p a.places a.s.now (text_bytes a.name) (values_from a.rec.now a.count a.at) b.requires.0 t h.j _ _ k.k k.invariant.3 c.loop-k-test.true k.invariant.1.known, omega (arith, k.invariant.1.counted, k.invariant.2))
 
-add-k : tie.Need-overflow-add-k invariant-loop2 decreases-loop2 invariant-loop decreases-loop invariant-search decreases-search
+add-k : tie.Need-overflow_add-k invariant-loop2 decreases-loop2 invariant-loop decreases-loop invariant-search decreases-search
 add-k c =
     omega arith
 
-loop2-less : tie.Need-loop2-smaller invariant-loop2 decreases-loop2 invariant-loop decreases-loop invariant-search decreases-search
+loop2-less : tie.Need-loop-k-smaller invariant-loop2 decreases-loop2 invariant-loop decreases-loop invariant-search decreases-search
 loop2-less c =
     omega arith
 
-loop2-again : tie.Need-loop2-preserved invariant-loop2 decreases-loop2 invariant-loop decreases-loop invariant-search decreases-search
+loop2-again : tie.Need-loop-k-preserved invariant-loop2 decreases-loop2 invariant-loop decreases-loop invariant-search decreases-search
 loop2-again c =
     let b = c.before.before.before.before.before.before.before.before.before.before.before.before.before.before.before.before.before.before.before in
     let a = b.args in
     let e = c.before.before.before.before in
-    let k = e.loop2 in
+    let k = e.loop-k in
     let d = e.before.before.before.before.before in
-    let h = d.loop in
-    let t = d.before.before.before.before.before.before.search.t in
-    (k.invariant.0, k.invariant.1, k.invariant.2, row-past a.p a.places a.s.now (text_bytes a.name) (values_from a.rec.now a.count a.at) b.requires.0 t h.j _ _ k.k k.invariant.3 c.before.before.if2.true _ c.before.is-referring.ensures c.if3.false)
+    let h = d.loop-j in
+    let t = d.search.t in
+    (k.invariant.0, k.invariant.1, k.invariant.2, row-past a.p a.places a.s.now (text_bytes a.name) (values_from a.rec.now a.count a.at) b.requires.0 t h.j _ _ k.k k.invariant.3 c.loop-k-test.true _ c.is_referring.ensures c.if-is_referring.false)
 
-add-j : tie.Need-overflow-add-j invariant-loop2 decreases-loop2 invariant-loop decreases-loop invariant-search decreases-search
+add-j : tie.Need-overflow_add-j invariant-loop2 decreases-loop2 invariant-loop decreases-loop invariant-search decreases-search
 add-j c =
     omega arith
 
-loop-less : tie.Need-loop-smaller invariant-loop2 decreases-loop2 invariant-loop decreases-loop invariant-search decreases-search
+loop-less : tie.Need-loop-j-smaller invariant-loop2 decreases-loop2 invariant-loop decreases-loop invariant-search decreases-search
 loop-less c =
     omega arith
 
-loop-again : tie.Need-loop-preserved invariant-loop2 decreases-loop2 invariant-loop decreases-loop invariant-search decreases-search
+loop-again : tie.Need-loop-j-preserved invariant-loop2 decreases-loop2 invariant-loop decreases-loop invariant-search decreases-search
 loop-again c =
     let b = c.before.before.before.before.before.before.before.before.before.before.before.before.before in
     let a = b.args in
     let d = c.before.before.before in
-    let h = d.loop in
-    let t = d.before.before.before.before.before.before.search.t in
+    let h = d.loop-j in
+    let t = d.search.t in
     ⊎_elim
     (λ w. (w.5 ∙ w.2.inv.0, h.invariant.1, column-next a.p a.places a.s.now (text_bytes a.name) (values_from a.rec.now a.count a.at) t h.j _ _ _ w.2.inv.3 w.4.left))
-    (λ w. (w.1 ∙ h.invariant.0, h.invariant.1, column-past a.p a.places a.s.now (text_bytes a.name) (values_from a.rec.now a.count a.at) t h.j (omega (arith, h.invariant.1.counted, c.before.before.loop-test.true)) h.invariant.2 _ c.before.is-searched.ensures w.0.left))
-    c.if1.branch
+    (λ w. (w.1 ∙ h.invariant.0, h.invariant.1, column-past a.p a.places a.s.now (text_bytes a.name) (values_from a.rec.now a.count a.at) t h.j (omega (arith, h.invariant.1.counted, c.loop-j-test.true)) h.invariant.2 _ c.is_searched.ensures w.0.left))
+    c.if-is_searched.branch-raw
 
-add-t : tie.Need-overflow-add-t invariant-loop2 decreases-loop2 invariant-loop decreases-loop invariant-search decreases-search
+add-t : tie.Need-overflow_add-t invariant-loop2 decreases-loop2 invariant-loop decreases-loop invariant-search decreases-search
 add-t c =
     omega arith
 
@@ -206,62 +206,62 @@ search-again c =
     let b = c.before.before.before.before.before.before.before.before.before.before.before in
     let a = b.args in
     let d = c.before in
-    let h = d.loop in
-    let t = d.before.before.before.before.before.before.search.t in
-    (h.invariant.0, table-next a.p a.places a.s.now (text_bytes a.name) (values_from a.rec.now a.count a.at) t h.j h.invariant.2 (omega (arith, h.invariant.1.counted, c.loop-test.false)))
+    let h = d.loop-j in
+    let t = d.search.t in
+    (h.invariant.0, table-next a.p a.places a.s.now (text_bytes a.name) (values_from a.rec.now a.count a.at) t h.j h.invariant.2 (omega (arith, h.invariant.1.counted, c.loop-j-test.false)))
 
-returns : tie.Need-returns invariant-loop2 decreases-loop2 invariant-loop decreases-loop invariant-search decreases-search
+returns : tie.Need-returns-then-not-found invariant-loop2 decreases-loop2 invariant-loop decreases-loop invariant-search decreases-search
 unfolding Proper
 returns c =
     let b = c.before.before.before.before.before.before in
     let a = b.args in
-    let h = c.before.before.search in (
+    let h = c.search in (
       ⊎_elim
-          (λ w. search-end a.p a.places a.s.now (text_bytes a.name) (values_from a.rec.now a.count a.at) h.t h.invariant.1 (omega (arith, w.0.left, c.before.before.before.table-count.ensures, tables-count a.p a.places a.s.now)))
-          (λ w. absurd (false≢true (sym (ap not w.15) ∙ c.if4.true)))
-          c.before.search-test.branch,
+          (λ w. search-end a.p a.places a.s.now (text_bytes a.name) (values_from a.rec.now a.count a.at) h.t h.invariant.1 (omega (arith, w.0.left, c.table_count-tables.ensures, tables-count a.p a.places a.s.now)))
+          (λ w. absurd (false≢true (sym (ap not w.15) ∙ c.if-not-found.true)))
+          c.search-test.branch-raw,
       b.requires.1,
       tt,
     )
 
 table-record-requires-2 :
-    tie.Need-table-record-requires-2 invariant-loop2 decreases-loop2 invariant-loop decreases-loop invariant-search decreases-search
+    tie.Need-table_record-src-requires-2 invariant-loop2 decreases-loop2 invariant-loop decreases-loop invariant-search decreases-search
 table-record-requires-2 c κs =
     let b = c.before.before.before.before.before.before in
     let a = b.args in
-    (held-inside a.p a.places a.s.now b.requires.0, start-table a.p a.places a.s.now b.requires.0 c.before.before.search.t (hit c).row.known)
+    (held-inside a.p a.places a.s.now b.requires.0, start-table a.p a.places a.s.now b.requires.0 c.search.t (hit c).row.known)
 
 key-column-requires :
-    tie.Need-key-column-requires invariant-loop2 decreases-loop2 invariant-loop decreases-loop invariant-search decreases-search
+    tie.Need-key_column-column-requires invariant-loop2 decreases-loop2 invariant-loop decreases-loop invariant-search decreases-search
 key-column-requires c κs =
     let b = c.before.before.before.before.before.before.before in
     let a = b.args in
-    omega (arith, start-least a.p a.places a.s.now b.requires.0 c.before.before.before.search.t (hit c.before).row.known _ c.table-record2.ensures)
+    omega (arith, start-least a.p a.places a.s.now b.requires.0 c.search.t (hit c.before).row.known _ c.table_record-src-2.ensures)
 
 read-name-requires-2 :
-    tie.Need-read-name-requires-2 invariant-loop2 decreases-loop2 invariant-loop decreases-loop invariant-search decreases-search
+    tie.Need-read_name-requires invariant-loop2 decreases-loop2 invariant-loop decreases-loop invariant-search decreases-search
 read-name-requires-2 c κs =
     let b = c.before.before.before.before.before.before.before.before in
     let a = b.args in
-    omega (arith, start-least a.p a.places a.s.now b.requires.0 c.before.before.before.before.search.t (hit c.before.before).row.known _ c.before.table-record2.ensures)
+    omega (arith, start-least a.p a.places a.s.now b.requires.0 c.search.t (hit c.before.before).row.known _ c.table_record-src-2.ensures)
 
-cell-at-requires : tie.Need-cell-at-requires invariant-loop2 decreases-loop2 invariant-loop decreases-loop invariant-search decreases-search
+cell-at-requires : tie.Need-cell_at-requires invariant-loop2 decreases-loop2 invariant-loop decreases-loop invariant-search decreases-search
 cell-at-requires c κs =
     let b = c.before.before.before.before.before.before.before.before.before in
     let a = b.args in
     let d = c.before.before.before in
-    (b.requires.0, (hit d).row.stored, key-there a.p a.places a.s.now b.requires.0 d.before.before.search.t _ (hit d).row _ c.before.before.table-record2.ensures _ c.before.key-column.ensures)
+    (b.requires.0, (hit d).row.stored, key-there a.p a.places a.s.now b.requires.0 d.search.t _ (hit d).row _ c.table_record-src-2.ensures _ c.key_column-column.ensures)
 
-returns-2 : tie.Need-returns-2 invariant-loop2 decreases-loop2 invariant-loop decreases-loop invariant-search decreases-search
+returns-2 : tie.Need-returns invariant-loop2 decreases-loop2 invariant-loop decreases-loop invariant-search decreases-search
 returns-2 c =
     let b = c.before.before.before.before.before.before.before.before.before.before in
     let a = b.args in
     let d = c.before.before.before.before in
-    let r = c.before.read-name2 in
-    (carried-is a.p a.places a.s.now (text_bytes a.name) (values_from a.rec.now a.count a.at) b.requires.0 d.before.before.search.t _ (hit d) _ c.before.before.before.table-record2.ensures _ c.before.before.key-column.ensures _ _ r.ensures.0 c.cell-at.ensures.0, r.ensures.1, c.cell-at.ensures.1)
+    let r = c.read_name in
+    (carried-is a.p a.places a.s.now (text_bytes a.name) (values_from a.rec.now a.count a.at) b.requires.0 d.search.t _ (hit d) _ c.table_record-src-2.ensures _ c.key_column-column.ensures _ _ r.ensures.0 c.cell_at.ensures.0, r.ensures.1, c.cell_at.ensures.1)
 
-pub row-references-spec : {M : Type 1} → statement M
-row-references-spec =
+pub row_references_spec : {M : Type 1} → statement M
+row_references_spec =
     tie.close
     (tie.spec
     invariant-loop2

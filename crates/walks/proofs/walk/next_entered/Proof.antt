@@ -20,42 +20,42 @@ use Rattle.walks.proofs.walk.next_entered.Tie as tie
 
 -- ---- places that hold an entry, and how long its record is
 
-first-within : (c : tie.Then1) → let a = c.before.before.before.before.args in c.before.before.entry-rank.result < length (lists a.p a.places a.s.now).entries
+first-within : (c : tie.Then-i-count) → let a = c.args in c.entry_rank-i.result < length (lists a.p a.places a.s.now).entries
 first-within c =
     let b = c.before.before.before.before in
     let a = b.args in
-    entry-within a.p a.places a.s.now b.requires.0 c.before.before.entry-rank.result c.before.entry-count.result c.before.entry-count.ensures c.if1.true
+    entry-within a.p a.places a.s.now b.requires.0 c.entry_rank-i.result c.entry_count-count.result c.entry_count-count.ensures c.if-i-count.true
 
-first-long : (c : tie.After-entry-record) → length c.entry-record.result.now ≡ 78
+first-long : (c : tie.After-entry_record-rec) → length c.entry_record-rec.result.now ≡ 78
 first-long c =
     let b = c.before.before.before.before.before in
     let a = b.args in
-    ap length c.entry-record.ensures
-    ∙ record-wide a.p a.places a.s.now (held-inside a.p a.places a.s.now b.requires.0) Entries (area_at a.p a.places Entries) (record_width a.p Entries) c.before.before.before.entry-rank.result refl refl (first-within c.before)
+    ap length c.entry_record-rec.ensures
+    ∙ record-wide a.p a.places a.s.now (held-inside a.p a.places a.s.now b.requires.0) Entries (area_at a.p a.places Entries) (record_width a.p Entries) c.entry_rank-i.result refl refl (first-within c.before)
     ∙ entry-width a.p b.requires.0.coded.cells
 
-within : (c : tie.Else2) → let a = c.before.before.before.before.before.args in c.before.if1.i < length (lists a.p a.places a.s.now).entries
+within : (c : tie.Else-count-i) → let a = c.args in c.if-i-count.i < length (lists a.p a.places a.s.now).entries
 within c =
     let b = c.before.before.before.before.before in
     let a = b.args in
-    entry-within a.p a.places a.s.now b.requires.0 c.before.if1.i c.before.before.entry-count.result c.before.before.entry-count.ensures c.if2.false
+    entry-within a.p a.places a.s.now b.requires.0 c.if-i-count.i c.entry_count-count.result c.entry_count-count.ensures c.if-count-i.false
 
-long : (c : tie.After-entry-record2) → length c.entry-record2.result.now ≡ 78
+long : (c : tie.After-entry_record-rec-2) → length c.entry_record-rec-2.result.now ≡ 78
 long c =
     let b = c.before.before.before.before.before.before in
     let a = b.args in
-    ap length c.entry-record2.ensures
-    ∙ record-wide a.p a.places a.s.now (held-inside a.p a.places a.s.now b.requires.0) Entries (area_at a.p a.places Entries) (record_width a.p Entries) c.before.before.if1.i refl refl (within c.before)
+    ap length c.entry_record-rec-2.ensures
+    ∙ record-wide a.p a.places a.s.now (held-inside a.p a.places a.s.now b.requires.0) Entries (area_at a.p a.places Entries) (record_width a.p Entries) c.if-i-count.i refl refl (within c.before)
     ∙ entry-width a.p b.requires.0.coded.cells
 
 -- ---- what the place tells
 
-tells : (c : tie.Joined1) → let b = c.before.before.before.before in
-    Tells b.args.p b.args.places b.args.s.now b.requires.0 (text_bytes b.args.name) b.args.column (meaning b.args.v) (meaning b.args.after) b.requires.4 c.if1.i
+tells : (c : tie.Joined-i-count) → let b = c.before.before.before.before in
+    Tells b.args.p b.args.places b.args.s.now b.requires.0 (text_bytes b.args.name) b.args.column (meaning b.args.v) (meaning b.args.after) b.requires.4 c.if-i-count.i
 tells c =
     let b = c.before.before.before.before in
     let a = b.args in
-    let r = c.before.before.entry-rank in
+    let r = c.entry_rank-i in
     let T = Tells a.p a.places a.s.now b.requires.0 (text_bytes a.name) a.column (meaning a.v) (meaning a.after) b.requires.4 in
     ⊎_elim
     (λ w.
@@ -80,94 +80,94 @@ tells c =
     (λ w.
     subst T (sym w.1)
     (end-tells a.p a.places a.s.now b.requires.0 (text_bytes a.name) a.column (meaning a.v) (meaning a.after) b.requires.4 r.result r.ensures
-    c.before.entry-count.result
-    c.before.entry-count.ensures
+    c.entry_count-count.result
+    c.entry_count-count.ensures
     w.0.left)))
-    c.if1.branch
+    c.if-i-count.branch-raw
 
 -- ---- the needs
 
-entry-rank-requires : tie.Need-entry-rank-requires
+entry-rank-requires : tie.Need-entry_rank-i-requires
 entry-rank-requires c κs =
     let b = c.before in
     (held-entered b.args.p b.args.places b.args.s.now b.requires.0, record { name = b.requires.1; value = b.requires.2; key = b.requires.3 })
 
-entry-count-requires : tie.Need-entry-count-requires
+entry-count-requires : tie.Need-entry_count-count-requires
 entry-count-requires c κs =
     let b = c.before.before in
     inside-header b.args.p b.args.places b.args.s.now (held-inside b.args.p b.args.places b.args.s.now b.requires.0)
 
-entry-record-requires : tie.Need-entry-record-requires
+entry-record-requires : tie.Need-entry_record-rec-requires
 entry-record-requires c κs =
     let b = c.before.before.before.before in
     (held-inside b.args.p b.args.places b.args.s.now b.requires.0, first-within c)
 
-compare-entered-requires : tie.Need-compare-entered-requires
+compare-entered-requires : tie.Need-compare_entered-requires
 compare-entered-requires c κs =
     let b = c.before.before.before.before.before in
     let l = first-long c in
     (omega arith, b.requires.1, b.requires.2, b.requires.3)
 
-enum_told : tie.Need-enum-told
+enum_told : tie.Need-enum_told-1
 enum_told c = search rules
 
-add-i : tie.Need-overflow-add-i
+add-i : tie.Need-overflow_add-i
 add-i c = search rules
 
-returns : tie.Need-returns
+returns : tie.Need-returns-then-count-i
 returns c =
     let b = c.before.before.before.before.before in
     let a = b.args in (
-      tells_none a.p a.places a.s.now b.requires.0 (text_bytes a.name) a.column (meaning a.v) (meaning a.after) b.requires.4 c.before.if1.i (tells c.before)
-          c.before.before.entry-count.result
-          c.before.before.entry-count.ensures
-          c.if2.true,
+      tells_none a.p a.places a.s.now b.requires.0 (text_bytes a.name) a.column (meaning a.v) (meaning a.after) b.requires.4 c.if-i-count.i (tells c.before)
+          c.entry_count-count.result
+          c.entry_count-count.ensures
+          c.if-count-i.true,
       null-proper,
     )
 
-entry-record-requires-2 : tie.Need-entry-record-requires-2
+entry-record-requires-2 : tie.Need-entry_record-rec-requires-2
 entry-record-requires-2 c κs =
     let b = c.before.before.before.before.before in
     (held-inside b.args.p b.args.places b.args.s.now b.requires.0, within c)
 
-is-of-requires : tie.Need-is-of-requires
+is-of-requires : tie.Need-is_of-requires
 is-of-requires c κs =
     let b = c.before.before.before.before.before.before in
     let l = long c in
     (omega arith, b.requires.1, b.requires.2)
 
-sub-read-cell : tie.Need-overflow-sub-read-cell
+sub-read-cell : tie.Need-slice_bounds-read_cell-count
 sub-read-cell c = let l = long c.before in omega arith
 
-part-read-cell-start : tie.Need-slice-bounds-read-cell-start
+part-read-cell-start : tie.Need-slice_bounds-read_cell-start
 part-read-cell-start c = let l = long c.before in omega arith
 
-part-read-cell-end : tie.Need-slice-bounds-read-cell-end
+part-read-cell-end : tie.Need-slice_bounds-read_cell-end
 part-read-cell-end c = search rules
 
-read-cell-requires : tie.Need-read-cell-requires
+read-cell-requires : tie.Need-read_cell-requires
 read-cell-requires c κs =
     let l = long c.before.before in
-    rw (rest-length 52 c.before.before.entry-record2.result.now) (omega arith)
+    rw (rest-length 52 c.entry_record-rec-2.result.now) (omega arith)
 
-returns-2 : tie.Need-returns-2
+returns-2 : tie.Need-returns
 returns-2 c =
     let b = c.before.before.before.before.before.before.before.before.before in
     let a = b.args in
     let e = c.before.before.before in (
-      tells-key a.p a.places a.s.now b.requires.0 (text_bytes a.name) a.column (meaning a.v) (meaning a.after) b.requires.4 e.before.before.if1.i (tells e.before.before)
+      tells-key a.p a.places a.s.now b.requires.0 (text_bytes a.name) a.column (meaning a.v) (meaning a.after) b.requires.4 e.if-i-count.i (tells e.before.before)
           (within e.before)
-          e.entry-record2.result.now
-          e.entry-record2.ensures
-          c.before.before.is-of.result
-          c.before.before.is-of.ensures
+          e.entry_record-rec-2.result.now
+          e.entry_record-rec-2.ensures
+          c.is_of.result
+          c.is_of.ensures
           (held c.read_cell.result)
           c.read_cell.ensures.0,
       c.read_cell.ensures.1,
     )
 
-pub next-entered-spec : {M : Type 1} → statement M
-next-entered-spec =
+pub next_entered_spec : {M : Type 1} → statement M
+next_entered_spec =
     tie.close
     (tie.spec
     entry-rank-requires

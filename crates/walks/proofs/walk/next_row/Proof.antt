@@ -18,119 +18,119 @@ use Rattle.walks.proofs.walk.next_row.Statement.{statement}
 use Rattle.walks.proofs.walk.next_row.Tie as tie
 
 -- the place that is looked at
-begun : (c : tie.Joined1)
-    → let top = c.before.named-before.result in
-    let from = c.before.before.before.before.before.before.before.args.from in
-    ((from < top) × (c.if1.i ≡ top)) ⊎ ((top ≤ from) × (c.if1.i ≡ from))
-begun c = ⊎_elim (λ w. inl (w.0.taken, w.1)) (λ w. inr (w.0.left, w.1)) c.if1.branch
+begun : (c : tie.Joined-from-first)
+    → let top = c.named_before-first.result in
+    let from = c.args.from in
+    ((from < top) × (c.if-from-first.i ≡ top)) ⊎ ((top ≤ from) × (c.if-from-first.i ≡ from))
+begun c = ⊎_elim (λ w. inl (w.0.taken, w.1)) (λ w. inr (w.0.left, w.1)) c.if-from-first.branch-raw
 
 -- it is one of a row
-within : (c : tie.Else2)
-    → let a = c.before.before.before.before.before.before.before.before.args in
-    c.before.if1.i < length (parse a.p a.places a.s.now).rows
+within : (c : tie.Else-count-i)
+    → let a = c.args in
+    c.if-from-first.i < length (parse a.p a.places a.s.now).rows
 within c =
     let k = c.before.before.before.before.before.before in
     let b = k.before.before in
     let a = b.args in
-    next-within a.p a.places a.s.now b.requires.0 (text_bytes a.name) k.row_count.result k.row_count.ensures c.before.if1.i c.if2.false
+    next-within a.p a.places a.s.now b.requires.0 (text_bytes a.name) k.row_count-count.result k.row_count-count.ensures c.if-from-first.i c.if-count-i.false
 
-row-count-requires : tie.Need-row-count-requires
+row-count-requires : tie.Need-row_count-count-requires
 row-count-requires c κs =
     let b = c.before in
     let a = b.args in
     inside-header a.p a.places a.s.now (held-inside a.p a.places a.s.now b.requires.0)
 
-row-width-requires : tie.Need-row-width-requires
-row-width-requires c κs = c.before.before.requires.0.coded.known
+row-width-requires : tie.Need-row_width-width-requires
+row-width-requires c κs = c.requires.0.coded.known
 
-rows-at-requires : tie.Need-rows-at-requires
-rows-at-requires c κs = c.before.before.before.requires.0.coded.known
+rows-at-requires : tie.Need-rows_at-start-requires
+rows-at-requires c κs = c.requires.0.coded.known
 
-sub-named-before : tie.Need-overflow-sub-named-before
+sub-named-before : tie.Need-slice_bounds-named_before-count
 sub-named-before c =
     let b = c.before.before.before.before in
     let a = b.args in
-    area-start a.p a.places a.s.now (held-inside a.p a.places a.s.now b.requires.0) Rows c.rows_at.result c.rows_at.ensures
+    area-start a.p a.places a.s.now (held-inside a.p a.places a.s.now b.requires.0) Rows c.rows_at-start.result c.rows_at-start.ensures
 
-part-named-before-start : tie.Need-slice-bounds-named-before-start
+part-named-before-start : tie.Need-slice_bounds-named_before-start
 part-named-before-start c =
     let b = c.before.before.before.before in
     let a = b.args in
-    area-start a.p a.places a.s.now (held-inside a.p a.places a.s.now b.requires.0) Rows c.rows_at.result c.rows_at.ensures
+    area-start a.p a.places a.s.now (held-inside a.p a.places a.s.now b.requires.0) Rows c.rows_at-start.result c.rows_at-start.ensures
 
-part-named-before-end : tie.Need-slice-bounds-named-before-end
+part-named-before-end : tie.Need-slice_bounds-named_before-end
 part-named-before-end c = search rules
 
-named-before-requires : tie.Need-named-before-requires
+named-before-requires : tie.Need-named_before-first-requires
 named-before-requires c κs =
     let f = c.before in
     let b = f.before.before.before.before in
     let a = b.args in
-    let w = f.before.row-width in
-    let k = f.before.before.row_count in
-    ((omega (arith, w.ensures, name-within a.p Rows), b.requires.1), run-searched a.p a.places Rows (text_bytes a.name) a.s.now (rows_run a.p a.places a.s.now b.requires.0 (text_bytes a.name)) f.rows_at.result w.result a.places f.rows_at.ensures w.ensures refl k.result k.ensures)
+    let w = f.row_width-width in
+    let k = f.row_count-count in
+    ((omega (arith, w.ensures, name-within a.p Rows), b.requires.1), run-searched a.p a.places Rows (text_bytes a.name) a.s.now (rows_run a.p a.places a.s.now b.requires.0 (text_bytes a.name)) f.rows_at-start.result w.result a.places f.rows_at-start.ensures w.ensures refl k.result k.ensures)
 
-returns : tie.Need-returns
+returns : tie.Need-returns-then-count-i
 returns c =
     let j = c.before in
-    let t = j.before.named-before in
+    let t = j.named_before-first in
     let f = j.before.before.before in
     let b = f.before.before.before.before in
     let a = b.args in
-    let w = f.before.row-width in
-    let k = f.before.before.row_count in
-    next_past a.p a.places a.s.now b.requires.0 (text_bytes a.name) f.rows_at.result w.result f.rows_at.ensures w.ensures k.result k.ensures t.result t.ensures a.from j.if1.i (begun j)
-    c.if2.true
+    let w = f.row_width-width in
+    let k = f.row_count-count in
+    next_past a.p a.places a.s.now b.requires.0 (text_bytes a.name) f.rows_at-start.result w.result f.rows_at-start.ensures w.ensures k.result k.ensures t.result t.ensures a.from j.if-from-first.i (begun j)
+    c.if-count-i.true
 
-row-record-requires : tie.Need-row-record-requires
+row-record-requires : tie.Need-row_record-requires
 row-record-requires c κs =
     let b = c.before.before.before.before.before.before.before.before in
     let a = b.args in (
       held-inside a.p a.places a.s.now b.requires.0,
-      row_within a.p a.places a.s.now b.requires.0 c.before.if1.i (within c),
+      row_within a.p a.places a.s.now b.requires.0 c.if-from-first.i (within c),
     )
 
-compare-named-requires : tie.Need-compare-named-requires
+compare-named-requires : tie.Need-compare_named-requires
 compare-named-requires c κs =
     let j = c.before.before in
     let b = j.before.before.before.before.before.before.before in
     let a = b.args in
-    let r = row-bytes a.p a.places a.s.now b.requires.0 j.if1.i (within c.before) c.row-record.result.now c.row-record.ensures in
+    let r = row-bytes a.p a.places a.s.now b.requires.0 j.if-from-first.i (within c.before) c.row_record.result.now c.row_record.ensures in
     (omega (arith, r, name-within a.p Rows), b.requires.1)
 
-enum_told : tie.Need-enum-told
+enum_told : tie.Need-enum_told-1
 enum_told c = search rules
 
-returns-2 : tie.Need-returns-2
+returns-2 : tie.Need-returns-in-Same
 returns-2 c =
-    let m = c.before.before in
-    let r = m.before.row-record in
+    let m = c.before in
+    let r = m.row_record in
     let j = m.before.before.before in
-    let t = j.before.named-before in
+    let t = j.named_before-first in
     let f = j.before.before.before in
     let b = f.before.before.before.before in
     let a = b.args in
-    let w = f.before.row-width in
-    let k = f.before.before.row_count in
-    next_here a.p a.places a.s.now b.requires.0 (text_bytes a.name) f.rows_at.result w.result f.rows_at.ensures w.ensures k.result k.ensures t.result t.ensures a.from j.if1.i (begun j)
-    (within m.before.before) r.result.now r.ensures _ m.compare-named.ensures (same-is m.compare-named.result _ refl c.enum_told.given.1)
+    let w = f.row_width-width in
+    let k = f.row_count-count in
+    next_here a.p a.places a.s.now b.requires.0 (text_bytes a.name) f.rows_at-start.result w.result f.rows_at-start.ensures w.ensures k.result k.ensures t.result t.ensures a.from j.if-from-first.i (begun j)
+    (within m.before.before) r.result.now r.ensures _ m.compare_named.ensures (same-is m.compare_named.result _ refl c.in-Same.is)
 
-returns-3 : tie.Need-returns-3
+returns-3 : tie.Need-returns-in_default
 returns-3 c =
     let m = c.before in
-    let r = m.before.row-record in
+    let r = m.row_record in
     let j = m.before.before.before in
-    let t = j.before.named-before in
+    let t = j.named_before-first in
     let f = j.before.before.before in
     let b = f.before.before.before.before in
     let a = b.args in
-    let w = f.before.row-width in
-    let k = f.before.before.row_count in
-    next-elsewhere a.p a.places a.s.now b.requires.0 (text_bytes a.name) f.rows_at.result w.result f.rows_at.ensures w.ensures k.result k.ensures t.result t.ensures a.from j.if1.i (begun j)
-    (within m.before.before) r.result.now r.ensures _ m.compare-named.ensures (not_same m.compare-named.result _ refl c.match.keys2)
+    let w = f.row_width-width in
+    let k = f.row_count-count in
+    next-elsewhere a.p a.places a.s.now b.requires.0 (text_bytes a.name) f.rows_at-start.result w.result f.rows_at-start.ensures w.ensures k.result k.ensures t.result t.ensures a.from j.if-from-first.i (begun j)
+    (within m.before.before) r.result.now r.ensures _ m.compare_named.ensures (not_same m.compare_named.result _ refl c.in_default.in_default-own.keys2)
 
-pub next-row-spec : {M : Type 1} → statement M
-next-row-spec =
+pub next_row_spec : {M : Type 1} → statement M
+next_row_spec =
     tie.close
     (tie.spec
     row-count-requires

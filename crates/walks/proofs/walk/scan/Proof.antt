@@ -11,100 +11,100 @@ use Rattle.laid.proofs.Stores.{held-inside}
 use Rattle.walks.proofs.walk.scan.Statement.{statement}
 use Rattle.walks.proofs.walk.scan.Tie as tie
 
-row-count-requires : tie.Need-row-count-requires
+row-count-requires : tie.Need-row_count-count-requires
 row-count-requires c κs =
     let b = c.before in
     let a = b.args in
     inside-header a.p a.places a.s.now (held-inside a.p a.places a.s.now b.requires.0)
 
-row-width-requires : tie.Need-row-width-requires
-row-width-requires c κs = c.before.before.requires.0.coded.known
+row-width-requires : tie.Need-row_width-width-requires
+row-width-requires c κs = c.requires.0.coded.known
 
-rows-at-requires : tie.Need-rows-at-requires
-rows-at-requires c κs = c.before.before.before.requires.0.coded.known
+rows-at-requires : tie.Need-rows_at-from-requires
+rows-at-requires c κs = c.requires.0.coded.known
 
-sub-named-before : tie.Need-overflow-sub-named-before
+sub-named-before : tie.Need-slice_bounds-named_before-count
 sub-named-before c =
     let f = c in
     let b = f.before.before.before.before in
     let a = b.args in
-    area-start a.p a.places a.s.now (held-inside a.p a.places a.s.now b.requires.0) Rows f.rows_at.result f.rows_at.ensures
+    area-start a.p a.places a.s.now (held-inside a.p a.places a.s.now b.requires.0) Rows f.rows_at-from.result f.rows_at-from.ensures
 
-part-named-before-start : tie.Need-slice-bounds-named-before-start
+part-named-before-start : tie.Need-slice_bounds-named_before-start
 part-named-before-start c =
     let f = c in
     let b = f.before.before.before.before in
     let a = b.args in
-    area-start a.p a.places a.s.now (held-inside a.p a.places a.s.now b.requires.0) Rows f.rows_at.result f.rows_at.ensures
+    area-start a.p a.places a.s.now (held-inside a.p a.places a.s.now b.requires.0) Rows f.rows_at-from.result f.rows_at-from.ensures
 
-part-named-before-end : tie.Need-slice-bounds-named-before-end
+part-named-before-end : tie.Need-slice_bounds-named_before-end
 part-named-before-end c = search rules
 
-named-before-requires : tie.Need-named-before-requires
+named-before-requires : tie.Need-named_before-i-requires
 named-before-requires c κs =
     let f = c.before in
     let b = f.before.before.before.before in
     let a = b.args in
-    let w = f.before.row-width in
-    let k = f.before.before.row_count in
-    ((omega (arith, w.ensures, name-within a.p Rows), b.requires.1), run-searched a.p a.places Rows (text_bytes a.name) a.s.now (rows_run a.p a.places a.s.now b.requires.0 (text_bytes a.name)) f.rows_at.result w.result a.places f.rows_at.ensures w.ensures refl k.result k.ensures)
+    let w = f.row_width-width in
+    let k = f.row_count-count in
+    ((omega (arith, w.ensures, name-within a.p Rows), b.requires.1), run-searched a.p a.places Rows (text_bytes a.name) a.s.now (rows_run a.p a.places a.s.now b.requires.0 (text_bytes a.name)) f.rows_at-from.result w.result a.places f.rows_at-from.ensures w.ensures refl k.result k.ensures)
 
-sub-run-from : tie.Need-overflow-sub-run-from
+sub-run-from : tie.Need-slice_bounds-run_from-count
 sub-run-from c =
     let f = c.before.before in
     let b = f.before.before.before.before in
     let a = b.args in
-    area-start a.p a.places a.s.now (held-inside a.p a.places a.s.now b.requires.0) Rows f.rows_at.result f.rows_at.ensures
+    area-start a.p a.places a.s.now (held-inside a.p a.places a.s.now b.requires.0) Rows f.rows_at-from.result f.rows_at-from.ensures
 
-part-run-from-start : tie.Need-slice-bounds-run-from-start
+part-run-from-start : tie.Need-slice_bounds-run_from-start
 part-run-from-start c =
     let f = c.before.before in
     let b = f.before.before.before.before in
     let a = b.args in
-    area-start a.p a.places a.s.now (held-inside a.p a.places a.s.now b.requires.0) Rows f.rows_at.result f.rows_at.ensures
+    area-start a.p a.places a.s.now (held-inside a.p a.places a.s.now b.requires.0) Rows f.rows_at-from.result f.rows_at-from.ensures
 
-part-run-from-end : tie.Need-slice-bounds-run-from-end
+part-run-from-end : tie.Need-slice_bounds-run_from-end
 part-run-from-end c = search rules
 
-run-from-requires : tie.Need-run-from-requires
+run-from-requires : tie.Need-run_from-n-requires
 run-from-requires c κs =
-    let i = c.before.named-before in
+    let i = c.named_before-i in
     let f = c.before.before.before in
     let b = f.before.before.before.before in
     let a = b.args in
-    let w = f.before.row-width in
-    let k = f.before.before.row_count in
+    let w = f.row_width-width in
+    let k = f.row_count-count in
     let r = rows_run a.p a.places a.s.now b.requires.0 (text_bytes a.name) in (
       omega (arith, w.ensures, name-within a.p Rows),
-      run_inside a.p a.places Rows (text_bytes a.name) a.s.now r f.rows_at.result w.result a.places f.rows_at.ensures w.ensures refl k.result k.ensures,
-      run-place a.p a.places Rows (text_bytes a.name) a.s.now r f.rows_at.result w.result a.places f.rows_at.ensures w.ensures refl k.result k.ensures i.result i.ensures,
+      run_inside a.p a.places Rows (text_bytes a.name) a.s.now r f.rows_at-from.result w.result a.places f.rows_at-from.ensures w.ensures refl k.result k.ensures,
+      run-place a.p a.places Rows (text_bytes a.name) a.s.now r f.rows_at-from.result w.result a.places f.rows_at-from.ensures w.ensures refl k.result k.ensures i.result i.ensures,
       b.requires.1,
     )
 
-add-t11 : tie.Need-overflow-add-t11
+add-t11 : tie.Need-overflow_add-result
 add-t11 c =
-    let n = c.run-from in
-    let i = c.before.before.named-before in
+    let n = c.run_from-n in
+    let i = c.named_before-i in
     let f = c.before.before.before.before in
     let b = f.before.before.before.before in
     let a = b.args in
-    let w = f.before.row-width in
-    let k = f.before.before.row_count in
-    omega (arith, span_small a.p a.places a.s.now b.requires.0 (text_bytes a.name) f.rows_at.result w.result f.rows_at.ensures w.ensures k.result k.ensures i.result i.ensures n.result n.ensures)
+    let w = f.row_width-width in
+    let k = f.row_count-count in
+    omega (arith, span_small a.p a.places a.s.now b.requires.0 (text_bytes a.name) f.rows_at-from.result w.result f.rows_at-from.ensures w.ensures k.result k.ensures i.result i.ensures n.result n.ensures)
 
 returns : tie.Need-returns
 returns c =
-    let n = c.run-from in
-    let i = c.before.before.named-before in
+    let n = c.run_from-n in
+    let i = c.named_before-i in
     let f = c.before.before.before.before in
     let b = f.before.before.before.before in
     let a = b.args in
-    let w = f.before.row-width in
-    let k = f.before.before.row_count in
-    span-is a.p a.places a.s.now b.requires.0 (text_bytes a.name) f.rows_at.result w.result f.rows_at.ensures w.ensures k.result k.ensures i.result i.ensures n.result n.ensures
+    let w = f.row_width-width in
+    let k = f.row_count-count in
+    span-is a.p a.places a.s.now b.requires.0 (text_bytes a.name) f.rows_at-from.result w.result f.rows_at-from.ensures w.ensures k.result k.ensures i.result i.ensures n.result n.ensures
 
-pub scan-spec : {M : Type 1} → statement M
-scan-spec =
+pub scan_spec : {M : Type 1} → statement M
+scan_spec =
     tie.close
     (tie.spec
     row-count-requires
