@@ -9,20 +9,20 @@ use borrow.Author.Rules.{rules}
 use Rattle.operations.proofs.batch.back.Statement.{statement}
 use Rattle.operations.proofs.batch.back.Tie as tie
 
-is-open-requires : tie.Need-is-open-requires
-is-open-requires c κs = omega (arith, book-long (journaled (laid-books c.before.before.before.requires)))
+is-open-requires : tie.Need-is_open-requires
+is-open-requires c κs = omega (arith, book-long (journaled (laid-books c.before.requires)))
 
 refused-requires : tie.Need-refused-requires
 refused-requires c κs = search rules
 
-same_length : tie.Need-same-length
+same_length : tie.Need-shape_of-j-then-not-is_open
 same_length c = search rules
 
-returns : tie.Need-returns
-returns c = back-refused c.before.before.before.before.before.before.requires (sym c.before.before.is_open.ensures ∙ not-true _ c.before.if1.true) c.refused.result c.refused.ensures
+returns : tie.Need-returns-then-not-is_open
+returns c = back-refused c.before.requires (sym c.is_open.ensures ∙ not-true _ c.if-not-is_open.true) c.refused.result c.refused.ensures
 
 unwind-requires : tie.Need-unwind-requires
-unwind-requires c κs = batch-there c.before.before.before.before.before.before.before.requires (sym c.before.before.before.is_open.ensures ∙ not-false _ c.before.before.if1.false)
+unwind-requires c κs = batch-there c.before.requires (sym c.is_open.ensures ∙ not-false _ c.if-not-is_open.false)
 
 close-requires : tie.Need-close-requires
 close-requires c κs = search rules
@@ -30,19 +30,19 @@ close-requires c κs = search rules
 accepted-requires : tie.Need-accepted-requires
 accepted-requires c κs = search rules
 
-same-length-2 : tie.Need-same-length-2
+same-length-2 : tie.Need-shape_of-s
 same-length-2 c = search rules
 
-same-length-3 : tie.Need-same-length-3
+same-length-3 : tie.Need-shape_of-j
 same-length-3 c = search rules
 
-returns-2 : tie.Need-returns-2
+returns-2 : tie.Need-returns
 returns-2 c =
-    back-now c.before.before.before.before.before.before.before.before.before.before.before.before.before.before.before.before.before.requires (sym c.before.before.before.before.before.before.before.before.before.before.before.before.before.is_open.ensures ∙ not-false _ c.before.before.before.before.before.before.before.before.before.before.before.before.if1.false) c.before.before.before.before.before.before.before.before.before.unwind.ensures c.before.before.before.before.before.before.before.before.before.unwind.auto.1.1.1.0 c.before.before.before.close.ensures
+    back-now c.before.requires (sym c.is_open.ensures ∙ not-false _ c.if-not-is_open.false) c.unwind.ensures c.unwind.auto.1.1.1.0 c.close.ensures
     c.accepted.ensures
 
-pub back-spec : {M : Type 1} → statement M
-back-spec =
+pub back_spec : {M : Type 1} → statement M
+back_spec =
     tie.close
     (tie.spec
     is-open-requires

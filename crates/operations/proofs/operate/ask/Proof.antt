@@ -16,21 +16,21 @@ get-requires : tie.Need-get-requires
 get-requires c κs =
     let b = c.before.before.before in
     let a = b.args in
-    (b.requires.0, got-as (is_get a.rec.now a.p a.k 2 c.match.keys1) b.requires.2)
+    (b.requires.0, got-as (is_get a.rec.now a.p a.k 2 c.in-6.is) b.requires.2)
 
 lookup-requires : tie.Need-lookup-requires
 lookup-requires c κs =
     let b = c.before.before.before in
     let a = b.args in
-    (b.requires.0, got-as (is-lookup a.rec.now a.p a.k 2 c.match.keys2) b.requires.2)
+    (b.requires.0, got-as (is-lookup a.rec.now a.p a.k 2 c.in-7.is) b.requires.2)
 
 scan-requires : tie.Need-scan-requires
 scan-requires c κs =
     let b = c.before.before.before in
     let a = b.args in
-    (b.requires.0, got-as (is-scan a.rec.now a.p a.k 2 c.match.keys3) b.requires.2)
+    (b.requires.0, got-as (is-scan a.rec.now a.p a.k 2 c.in-8.is) b.requires.2)
 
-table-count-requires : tie.Need-table-count-requires
+table-count-requires : tie.Need-table_count-requires
 table-count-requires c κs =
     let b = c.before.before.before in
     let a = b.args in
@@ -42,38 +42,38 @@ accepted-requires c κs = search rules
 refused-requires : tie.Need-refused-requires
 refused-requires c κs = search rules
 
-returns : tie.Need-returns
+returns : tie.Need-returns-in-6
 returns c =
-    let a = c.before.before.before.before.args in
-    replied-as a.p a.places a.s.now _ (is_get a.rec.now a.p a.k 2 c.before.match.keys1) c.get.ensures
+    let a = c.args in
+    replied-as a.p a.places a.s.now _ (is_get a.rec.now a.p a.k 2 c.in-6.is) c.get.ensures
 
-returns-2 : tie.Need-returns-2
+returns-2 : tie.Need-returns-in-7
 returns-2 c =
-    let a = c.before.before.before.before.args in
-    replied-as a.p a.places a.s.now _ (is-lookup a.rec.now a.p a.k 2 c.before.match.keys2) c.lookup.ensures
+    let a = c.args in
+    replied-as a.p a.places a.s.now _ (is-lookup a.rec.now a.p a.k 2 c.in-7.is) c.lookup.ensures
 
-returns-3 : tie.Need-returns-3
+returns-3 : tie.Need-returns-in-8
 returns-3 c =
-    let a = c.before.before.before.before.args in
-    replied-as a.p a.places a.s.now _ (is-scan a.rec.now a.p a.k 2 c.before.match.keys3) c.scan.ensures
+    let a = c.args in
+    replied-as a.p a.places a.s.now _ (is-scan a.rec.now a.p a.k 2 c.in-8.is) c.scan.ensures
 
-returns-4 : tie.Need-returns-4
+returns-4 : tie.Need-returns-in-9
 returns-4 c =
-    let n = c.before.table-count in
-    let a = c.before.before.before.before.before.args in
-    replied-as a.p a.places a.s.now _ (is-names a.rec.now a.p a.k 2 c.before.before.match.keys4)
+    let n = c.table_count in
+    let a = c.args in
+    replied-as a.p a.places a.s.now _ (is-names a.rec.now a.p a.k 2 c.in-9.is)
     (λ j. names-answered a.p a.places (record { store = parse a.p a.places a.s.now; journal = j }) (got_or Names (got Names 2)) _ (got-gives Names (got Names 2) Names 2 refl) n.result c.accepted.ensures
     (n.ensures ∙ tables-counted a.p a.places a.s.now))
 
-returns-5 : tie.Need-returns-5
+returns-5 : tie.Need-returns-in_default
 returns-5 c =
-    let k = c.before.match.rest in
+    let k = c.in_default.in_default-own.rest in
     let b = c.before.before.before.before in
     let a = b.args in
     absurd (reads_known a.rec.now a.p a.k 2 b.requires.2 b.requires.1 k.0.0.0.1 k.0.0.1 k.0.1 k.1)
 
-pub ask-spec : {M : Type 1} → statement M
-ask-spec =
+pub ask_spec : {M : Type 1} → statement M
+ask_spec =
     tie.close
     (tie.spec
     get-requires

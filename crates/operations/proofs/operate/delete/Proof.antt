@@ -6,45 +6,45 @@ use Rattle.operations.proofs.Operands.{packed, keys-unnamed, keys-read, keys-ins
 use Rattle.operations.proofs.operate.delete.Statement.{statement}
 use Rattle.operations.proofs.operate.delete.Tie as tie
 
-name-at-requires : tie.Need-name-at-requires
+name-at-requires : tie.Need-name_at-requires
 name-at-requires c κs = search rules
 
-enum-known-name : tie.Need-enum-known-name
+enum-known-name : tie.Need-enum_known-name
 enum-known-name c = search rules
 
-byte-of-requires : tie.Need-byte-of-requires
+byte-of-requires : tie.Need-byte_of-count-requires
 byte-of-requires c κs = search rules
 
-cast-count : tie.Need-overflow-cast-count
+cast-count : tie.Need-overflow_cast-count
 cast-count c = search rules
 
-add-delete : tie.Need-overflow-add-delete
-add-delete c = omega (arith, keys-inside _ _ _ c.before.before.before.before.before.before.name-at.ensures _ _ c.before.before.before.before.name.given.1 Delete c.before.before.before.before.before.before.before.before.before.before.requires.1)
+add-delete : tie.Need-overflow_add-next
+add-delete c = omega (arith, keys-inside _ _ _ c.name_at.ensures _ _ c.in-Named.is Delete c.requires.1)
 
 delete-requires : tie.Need-delete-requires
-delete-requires c κs = (c.before.before.before.before.before.before.before.before.before.before.requires.0, packed _ _ _ c.before.before.before.before.before.before.name-at.ensures _ _ c.before.before.before.before.name.given.1)
+delete-requires c κs = (c.requires.0, packed _ _ _ c.name_at.ensures _ _ c.in-Named.is)
 
-returns : tie.Need-returns
+returns : tie.Need-returns-in-Named
 returns c =
-    delete-acted _ _ _ (keys-read _ _ _ c.before.before.before.before.before.before.before.before.before.before.before.name-at.ensures _ _ c.before.before.before.before.before.before.before.before.before.name.given.1 Delete c.before.before.before.before.before.before.before.before.before.before.before.before.before.before.before.requires.1 _ c.before.before.before.before.before.before.before.byte_of.ensures) c.before.before.before.before.delete.ensures
+    delete-acted _ _ _ (keys-read _ _ _ c.name_at.ensures _ _ c.in-Named.is Delete c.requires.1 _ c.byte_of-count.ensures) c.delete.ensures
 
-returns-2 : tie.Need-returns-2
-returns-2 c = absurd (keys-unnamed _ _ _ c.before.before.before.name-at.ensures Delete _ c.before.enum_told.given.1 c.before.before.before.before.before.before.before.requires.1)
+returns-2 : tie.Need-returns-in-Bad
+returns-2 c = absurd (keys-unnamed _ _ _ c.name_at.ensures Delete _ c.in-Bad.is c.requires.1)
 
-enum_told : tie.Need-enum-told
+enum_told : tie.Need-enum_told-1
 enum_told c = search rules
 
 refused-requires : tie.Need-refused-requires
 refused-requires c κs = search rules
 
-same_length : tie.Need-same-length
+same_length : tie.Need-shape_of-s
 same_length c = search rules
 
-same-length-2 : tie.Need-same-length-2
+same-length-2 : tie.Need-shape_of-j
 same-length-2 c = search rules
 
-pub delete-spec : {M : Type 1} → statement M
-delete-spec =
+pub delete_spec : {M : Type 1} → statement M
+delete_spec =
     tie.close
     (tie.spec
     name-at-requires

@@ -9,163 +9,163 @@ use Rattle.operations.proofs.PairsWritten.{Updating, Ahead, Turned, updating-sta
 use Rattle.operations.proofs.operate.update_pairs.Statement.{statement}
 use Rattle.operations.proofs.operate.update_pairs.Tie as tie
 
-abbrev invariant-loop : tie.invariant-loop
+abbrev invariant-loop : tie.invariant-loop-left
 invariant-loop s₀ p places j₀ t rec at n left₀ q₀ i₀ s j left q i = Updating p places s₀ j₀ t rec at n s j left q i
 
-abbrev decreases-loop : tie.decreases-loop
+abbrev decreases-loop : tie.decreases-loop-left
 decreases-loop s₀ p places j₀ t rec at n left₀ q₀ i₀ s j left q i = left
 
 -- the pair that a turn reads
-ahead : (c : tie.After-cell invariant-loop decreases-loop) →
-    let a = c.before.before.before.before.before.before.before.before.args in
-    let g = c.cell.given in
-    Ahead a.p a.places a.s.now a.j.now a.t a.rec.now a.at a.n c.before.before.before.before.loop.q g.0.0 g.0.1.0
+ahead : (c : tie.In-Got-2 invariant-loop decreases-loop) →
+    let a = c.args in
+    let g = c.cell-1.given in
+    Ahead a.p a.places a.s.now a.j.now a.t a.rec.now a.at a.n c.loop-left.q g.0.0 g.0.1.0
 ahead c =
-    let a = c.before.before.before.before.before.before.before.before.args in
-    let l = c.before.before.before.before.loop in
-    let v = c.before.before.value-at in
-    let g = c.cell.given in
-    pair-ahead a.p a.places a.s.now a.j.now a.t a.rec.now a.at a.n l.s l.j l.left l.q l.i l.invariant c.before.before.before.loop-test.true v.result v.ensures
+    let a = c.args in
+    let l = c.loop-left in
+    let v = c.value_at in
+    let g = c.cell-1.given in
+    pair-ahead a.p a.places a.s.now a.j.now a.t a.rec.now a.at a.n l.s l.j l.left l.q l.i l.invariant c.loop-left-test.true v.result v.ensures
     g.0.0 g.0.1.0 g.1
 
 -- its row is read
-full : (c : tie.After-read-row invariant-loop decreases-loop) →
-    let a = c.before.before.before.before.before.before.before.before.before.before.before.args in
-    FullRow a.p a.places c.before.before.before.before.before.before.before.loop.s a.t c.read-row.result
+full : (c : tie.After-read_row-row invariant-loop decreases-loop) →
+    let a = c.args in
+    FullRow a.p a.places c.loop-left.s a.t c.read_row-row.result
 full c =
-    let a = c.before.before.before.before.before.before.before.before.before.before.before.args in
-    let l = c.before.before.before.before.before.before.before.loop in
-    let v = c.before.before.before.before.before.value-at in
-    let g = c.before.before.before.cell.given in
-    let k = c.before.byte_of in
-    let e = c.read-row.ensures in
-    row-full a.p a.places a.s.now a.j.now a.t a.rec.now a.at a.n l.s l.j l.left l.q l.i l.invariant c.before.before.before.before.before.before.loop-test.true v.result v.ensures
-    g.0.0 g.0.1.0 g.1 k.result k.ensures c.read-row.result e.0 e.1 e.2
+    let a = c.args in
+    let l = c.loop-left in
+    let v = c.value_at in
+    let g = c in
+    let k = c.byte_of-count in
+    let e = c.read_row-row.ensures in
+    row-full a.p a.places a.s.now a.j.now a.t a.rec.now a.at a.n l.s l.j l.left l.q l.i l.invariant c.loop-left-test.true v.result v.ensures
+    g.in-Got.cell g.in-Got.next g.in-Got.is k.result k.ensures c.read_row-row.result e.0 e.1 e.2
 
 -- and written
-turned : (c : tie.After-update invariant-loop decreases-loop) →
-    let a = c.before.before.before.before.before.before.before.before.before.before.before.before.before.before.args in
-    let l = c.before.before.before.before.before.before.before.before.before.before.loop in
-    Turned a.p a.places a.s.now a.j.now a.t a.rec.now a.at a.n l.left l.i c.before.before.before.before.before.before.cell.given.0.1.0 c.update.new.0 c.update.new.1.1.1.0 c.update.result
+turned : (c : tie.After-update-a invariant-loop decreases-loop) →
+    let a = c.args in
+    let l = c.loop-left in
+    Turned a.p a.places a.s.now a.j.now a.t a.rec.now a.at a.n l.left l.i c.in-Got.next c.update-a.new.s c.update-a.new.j.1.1.0 c.update-a.result
 turned c =
-    let a = c.before.before.before.before.before.before.before.before.before.before.before.before.before.before.args in
-    let l = c.before.before.before.before.before.before.before.before.before.before.loop in
-    let v = c.before.before.before.before.before.before.before.before.value-at in
-    let g = c.before.before.before.before.before.before.cell.given in
-    let k = c.before.before.before.before.byte_of in
-    let r = c.before.before.before.read-row in
-    updating-turn a.p a.places a.s.now a.j.now a.t a.rec.now a.at a.n l.s l.j l.left l.q l.i l.invariant c.before.before.before.before.before.before.before.before.before.loop-test.true v.result v.ensures
-    g.0.0 g.0.1.0 g.1 k.result k.ensures r.result r.ensures.0 r.ensures.1 r.ensures.2
-    c.update.new.0 c.update.new.1.1.1.0 c.update.result c.update.ensures
+    let a = c.args in
+    let l = c.loop-left in
+    let v = c.value_at in
+    let g = c in
+    let k = c.byte_of-count in
+    let r = c.read_row-row in
+    updating-turn a.p a.places a.s.now a.j.now a.t a.rec.now a.at a.n l.s l.j l.left l.q l.i l.invariant c.loop-left-test.true v.result v.ensures
+    g.in-Got.cell g.in-Got.next g.in-Got.is k.result k.ensures r.result r.ensures.0 r.ensures.1 r.ensures.2
+    c.update-a.new.s c.update-a.new.j.1.1.0 c.update-a.result c.update-a.ensures
 
-loop-holds : tie.Need-loop-init invariant-loop decreases-loop
+loop-holds : tie.Need-loop-left-init invariant-loop decreases-loop
 loop-holds c =
     let b = c.before.before.before in
     updating-start _ _ _ _ _ _ _ _ b.requires.0.0 b.requires.0.1 b.requires.0.2 b.requires.1
 
-value-at-requires : tie.Need-value-at-requires invariant-loop decreases-loop
+value-at-requires : tie.Need-value_at-requires invariant-loop decreases-loop
 value-at-requires c κs = search rules
 
-enum-known-cell : tie.Need-enum-known-cell invariant-loop decreases-loop
+enum-known-cell : tie.Need-enum_known-cell invariant-loop decreases-loop
 enum-known-cell c = search rules
 
-enum_told : tie.Need-enum-told invariant-loop decreases-loop
+enum_told : tie.Need-enum_told-1 invariant-loop decreases-loop
 enum_told c = search rules
 
 accepted-requires : tie.Need-accepted-requires invariant-loop decreases-loop
 accepted-requires c κs = search rules
 
-same_length : tie.Need-same-length invariant-loop decreases-loop
-same_length c = omega (arith, c.before.before.before.before.before.loop.invariant.long)
+same_length : tie.Need-shape_of-s-in_default invariant-loop decreases-loop
+same_length c = omega (arith, c.loop-left.invariant.long)
 
-same-length-2 : tie.Need-same-length-2 invariant-loop decreases-loop
-same-length-2 c = omega (arith, c.before.before.before.before.before.loop.invariant.places)
+same-length-2 : tie.Need-shape_of-j-in_default invariant-loop decreases-loop
+same-length-2 c = omega (arith, c.loop-left.invariant.places)
 
-returns : tie.Need-returns invariant-loop decreases-loop
+returns : tie.Need-returns-in_default invariant-loop decreases-loop
 returns c =
-    absurd (old-whole _ _ _ _ _ _ _ _ _ _ _ _ _ c.before.before.before.before.before.loop.invariant c.before.before.before.before.loop-test.true _ c.before.before.before.value-at.ensures _ c.before.enum_told.given.1)
+    absurd (old-whole _ _ _ _ _ _ _ _ _ _ _ _ _ c.loop-left.invariant c.loop-left-test.true _ c.value_at.ensures _ c.in_default.is)
 
-byte-of-requires : tie.Need-byte-of-requires invariant-loop decreases-loop
+byte-of-requires : tie.Need-byte_of-count-requires invariant-loop decreases-loop
 byte-of-requires c κs = search rules
 
-cast-count : tie.Need-overflow-cast-count invariant-loop decreases-loop
+cast-count : tie.Need-overflow_cast-count invariant-loop decreases-loop
 cast-count c = search rules
 
-add-read-row : tie.Need-overflow-add-read-row invariant-loop decreases-loop
-add-read-row c = omega (arith, (ahead c.before.before).inside, c.before.before.before.before.before.before.before.before.before.before.well-formed.1.1.1.1.1.0.0)
+add-read-row : tie.Need-overflow_add-next invariant-loop decreases-loop
+add-read-row c = omega (arith, (ahead c.before).inside, c.well_formed.1.1.1.1.1.0.0)
 
-read-row-requires : tie.Need-read-row-requires invariant-loop decreases-loop
+read-row-requires : tie.Need-read_row-row-requires invariant-loop decreases-loop
 read-row-requires c κs =
-    let m = ahead c.before.before in
-    (m.few c.before.before.before.before.before.before.before.before.before.before.requires.0.0.paging.most c.byte_of.result c.byte_of.ensures, m.counts c.byte_of.result c.byte_of.ensures)
+    let m = ahead c.before in
+    (m.few c.requires.0.0.paging.most c.byte_of-count.result c.byte_of-count.ensures, m.counts c.byte_of-count.result c.byte_of-count.ensures)
 
-update-requires : tie.Need-update-requires invariant-loop decreases-loop
-update-requires c κs = (c.before.before.before.before.before.before.before.before.before.loop.invariant.books, full c.before.before, (ahead c.before.before.before.before.before).proper, (ahead c.before.before.before.before.before).alone)
+update-requires : tie.Need-update-a-requires invariant-loop decreases-loop
+update-requires c κs = (c.loop-left.invariant.books, full c.before.before, (ahead c.before.before.before.before).proper, (ahead c.before.before.before.before).alone)
 
-is-accepted-requires : tie.Need-is-accepted-requires invariant-loop decreases-loop
+is-accepted-requires : tie.Need-is_accepted-requires invariant-loop decreases-loop
 is-accepted-requires c κs = search rules
 
-same-length-3 : tie.Need-same-length-3 invariant-loop decreases-loop
+same-length-3 : tie.Need-shape_of-s-then-not-is_accepted invariant-loop decreases-loop
 same-length-3 c = omega (arith, (turned c.before.before.before.before.before.before).long)
 
-same-length-4 : tie.Need-same-length-4 invariant-loop decreases-loop
+same-length-4 : tie.Need-shape_of-j-then-not-is_accepted invariant-loop decreases-loop
 same-length-4 c = omega (arith, (turned c.before.before.before.before.before.before).places)
 
-returns-2 : tie.Need-returns-2 invariant-loop decreases-loop
-returns-2 c = (turned c.before.before.before.before.before.before).stops (sym c.before.is-accepted.ensures ∙ not-true _ c.if1.true)
+returns-2 : tie.Need-returns-then-not-is_accepted invariant-loop decreases-loop
+returns-2 c = (turned c.before.before.before.before.before.before).stops (sym c.is_accepted.ensures ∙ not-true _ c.if-not-is_accepted.true)
 
-values-end-requires : tie.Need-values-end-requires invariant-loop decreases-loop
+values-end-requires : tie.Need-values_end-requires invariant-loop decreases-loop
 values-end-requires c κs = search rules
 
-enum-known-e : tie.Need-enum-known-e invariant-loop decreases-loop
+enum-known-e : tie.Need-enum_known-e invariant-loop decreases-loop
 enum-known-e c = search rules
 
-enum-told-2 : tie.Need-enum-told-2 invariant-loop decreases-loop
+enum-told-2 : tie.Need-enum_told-in_default-values_end invariant-loop decreases-loop
 enum-told-2 c = search rules
 
-accepted-requires-2 : tie.Need-accepted-requires-2 invariant-loop decreases-loop
+accepted-requires-2 : tie.Need-accepted-requires-in_default-values_end invariant-loop decreases-loop
 accepted-requires-2 c κs = search rules
 
-same-length-5 : tie.Need-same-length-5 invariant-loop decreases-loop
-same-length-5 c = omega (arith, (turned c.before.before.before.before.before.before.before.before.before.before).long)
+same-length-5 : tie.Need-shape_of-s-in_default-values_end invariant-loop decreases-loop
+same-length-5 c = omega (arith, (turned c.before.before.before.before.before.before.before.before.before).long)
 
-same-length-6 : tie.Need-same-length-6 invariant-loop decreases-loop
-same-length-6 c = omega (arith, (turned c.before.before.before.before.before.before.before.before.before.before).places)
+same-length-6 : tie.Need-shape_of-j-in_default-values_end invariant-loop decreases-loop
+same-length-6 c = omega (arith, (turned c.before.before.before.before.before.before.before.before.before).places)
 
-returns-3 : tie.Need-returns-3 invariant-loop decreases-loop
+returns-3 : tie.Need-returns-in_default-values_end invariant-loop decreases-loop
 returns-3 c =
-    let w = c.before.before.before.values-end in
-    absurd ((ahead c.before.before.before.before.before.before.before.before.before.before.before.before.before.before.before.before).whole_row w.result _ w.ensures c.before.enum-told2.given.1)
+    let w = c.values_end in
+    absurd ((ahead c.before.before.before.before.before.before.before.before.before.before.before.before.before.before).whole_row w.result _ w.ensures c.in_default-values_end.is)
 
-add-i : tie.Need-overflow-add-i invariant-loop decreases-loop
-add-i c = omega (arith, c.before.before.before.before.before.before.before.before.before.before.before.before.before.before.before.before.before.before.before.loop-test.true, c.before.before.before.before.before.before.before.before.before.before.before.before.before.before.before.before.before.before.before.before.loop.invariant.counted, c.before.before.before.before.before.before.before.before.before.before.before.before.before.before.before.before.before.before.before.before.before.before.before.before.ranges.n)
+add-i : tie.Need-overflow_add-i invariant-loop decreases-loop
+add-i c = omega (arith, c.loop-left-test.true, c.loop-left.invariant.counted, c.ranges.n)
 
-sub-left : tie.Need-overflow-sub-left invariant-loop decreases-loop
-sub-left c = omega (arith, c.before.before.before.before.before.before.before.before.before.before.before.before.before.before.before.before.before.before.before.loop-test.true)
+sub-left : tie.Need-overflow_sub-left invariant-loop decreases-loop
+sub-left c = omega (arith, c.loop-left-test.true)
 
-loop-less : tie.Need-loop-smaller invariant-loop decreases-loop
-loop-less c = omega (arith, c.before.before.before.before.before.before.before.before.before.before.before.before.before.before.before.before.before.before.before.loop-test.true)
+loop-less : tie.Need-loop-left-smaller invariant-loop decreases-loop
+loop-less c = omega (arith, c.loop-left-test.true)
 
-loop-again : tie.Need-loop-preserved invariant-loop decreases-loop
+loop-again : tie.Need-loop-left-preserved invariant-loop decreases-loop
 loop-again c =
-    let w = c.before.before.before.values-end in
-    let e = c.before.e.given in
-    (turned c.before.before.before.before.before.before.before.before.before.before).next (sym c.before.before.before.before.before.is-accepted.ensures ∙ not-false _ c.before.before.before.before.if1.false) w.result e.0.0 w.ensures e.1
+    let w = c.values_end in
+    let e = c in
+    (turned c.before.before.before.before.before.before.before.before).next (sym c.is_accepted.ensures ∙ not-false _ c.if-not-is_accepted.false) w.result e.in-Ends.e w.ensures e.in-Ends.is
 
-accepted-requires-3 : tie.Need-accepted-requires-3 invariant-loop decreases-loop
+accepted-requires-3 : tie.Need-accepted-requires-2 invariant-loop decreases-loop
 accepted-requires-3 c κs = search rules
 
-same-length-7 : tie.Need-same-length-7 invariant-loop decreases-loop
-same-length-7 c = omega (arith, c.before.before.loop.invariant.long)
+same-length-7 : tie.Need-shape_of-s invariant-loop decreases-loop
+same-length-7 c = omega (arith, c.loop-left.invariant.long)
 
-same-length-8 : tie.Need-same-length-8 invariant-loop decreases-loop
-same-length-8 c = omega (arith, c.before.before.loop.invariant.places)
+same-length-8 : tie.Need-shape_of-j invariant-loop decreases-loop
+same-length-8 c = omega (arith, c.loop-left.invariant.places)
 
-returns-4 : tie.Need-returns-4 invariant-loop decreases-loop
-returns-4 c = updating-end _ _ _ _ _ _ _ _ _ _ _ _ _ c.before.before.loop.invariant c.before.loop-test.false _ c.accepted3.ensures
+returns-4 : tie.Need-returns invariant-loop decreases-loop
+returns-4 c = updating-end _ _ _ _ _ _ _ _ _ _ _ _ _ c.loop-left.invariant c.loop-left-test.false _ c.accepted-2.ensures
 
-pub update-pairs-spec : {M : Type 1} → statement M
-update-pairs-spec =
+pub update_pairs_spec : {M : Type 1} → statement M
+update_pairs_spec =
     tie.close
     (tie.spec
     invariant-loop

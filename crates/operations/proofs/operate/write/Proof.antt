@@ -10,88 +10,88 @@ use Rattle.operations.proofs.operate.write.Tie as tie
 
 create-requires : tie.Need-create-requires
 create-requires c κs =
-    let b = c.before.before.before.before.before.before in
+    let b = c.before in
     let a = b.args in
-    (b.requires.0, got-as (is-create a.rec.now a.p a.k 2 c.before.before.match.keys1) b.requires.2)
+    (b.requires.0, got-as (is-create a.rec.now a.p a.k 2 c.match.keys1) b.requires.2)
 
 drop-requires : tie.Need-drop-requires
 drop-requires c κs =
-    let b = c.before.before.before.before.before.before in
+    let b = c.before in
     let a = b.args in
-    (b.requires.0, got-as (is-drop a.rec.now a.p a.k 2 c.before.before.match.keys2) b.requires.2)
+    (b.requires.0, got-as (is-drop a.rec.now a.p a.k 2 c.match.keys2) b.requires.2)
 
 insert-requires : tie.Need-insert-requires
 insert-requires c κs =
     let b = c.before.before.before.before.before.before in
     let a = b.args in
-    (b.requires.0, got-as (is-insert a.rec.now a.p a.k 2 c.before.before.match.keys3) b.requires.2)
+    (b.requires.0, got-as (is-insert a.rec.now a.p a.k 2 c.in-3.is) b.requires.2)
 
 update-requires : tie.Need-update-requires
 update-requires c κs =
     let b = c.before.before.before.before.before.before in
     let a = b.args in
-    (b.requires.0, got-as (is-update a.rec.now a.p a.k 2 c.before.before.match.keys4) b.requires.2)
+    (b.requires.0, got-as (is-update a.rec.now a.p a.k 2 c.in-4.is) b.requires.2)
 
 delete-requires : tie.Need-delete-requires
 delete-requires c κs =
     let b = c.before.before.before.before.before.before in
     let a = b.args in
-    (b.requires.0, got-as (is-delete a.rec.now a.p a.k 2 c.before.before.match.keys5) b.requires.2)
+    (b.requires.0, got-as (is-delete a.rec.now a.p a.k 2 c.in-5.is) b.requires.2)
 
 open-requires : tie.Need-open-requires
-open-requires c κs = omega (arith, book-long (journaled (laid-books c.before.before.before.before.before.requires.0)))
+open-requires c κs = omega (arith, book-long (journaled (laid-books c.requires.0)))
 
 keep-requires : tie.Need-keep-requires
-keep-requires c κs = omega (arith, book-long (journaled (laid-books c.before.before.before.before.before.requires.0)))
+keep-requires c κs = omega (arith, book-long (journaled (laid-books c.requires.0)))
 
 back-requires : tie.Need-back-requires
-back-requires c κs = c.before.before.before.before.before.before.requires.0
+back-requires c κs = c.requires.0
 
-returns : tie.Need-returns
+returns : tie.Need-returns-in-1
 returns c =
-    let a = c.before.before.before.before.before.before.before.before.before.args in
-    acted-as (is-create a.rec.now a.p a.k 2 c.before.before.before.before.before.match.keys1) c.before.before.create.ensures
+    let a = c.before.args in
+    acted-as (is-create a.rec.now a.p a.k 2 c.match.keys1) c.create.ensures
 
-returns-2 : tie.Need-returns-2
+returns-2 : tie.Need-returns-in-2
 returns-2 c =
-    let a = c.before.before.before.before.before.before.before.before.before.args in
-    acted-as (is-drop a.rec.now a.p a.k 2 c.before.before.before.before.before.match.keys2) c.before.before.drop.ensures
+    let a = c.before.args in
+    acted-as (is-drop a.rec.now a.p a.k 2 c.match.keys2) c.drop.ensures
 
-returns-3 : tie.Need-returns-3
+returns-3 : tie.Need-returns-in-3
 returns-3 c =
-    let a = c.before.before.before.before.before.before.before.before.before.before.before.args in
-    acted-as (is-insert a.rec.now a.p a.k 2 c.before.before.before.before.before.before.before.match.keys3) c.before.before.before.before.insert.ensures
+    let a = c.args in
+    acted-as (is-insert a.rec.now a.p a.k 2 c.in-3.is) c.insert.ensures
 
-returns-4 : tie.Need-returns-4
+returns-4 : tie.Need-returns-in-4
 returns-4 c =
-    let a = c.before.before.before.before.before.before.before.before.before.before.before.args in
-    acted-as (is-update a.rec.now a.p a.k 2 c.before.before.before.before.before.before.before.match.keys4) c.before.before.before.before.update.ensures
+    let a = c.args in
+    acted-as (is-update a.rec.now a.p a.k 2 c.in-4.is) c.update.ensures
 
-returns-5 : tie.Need-returns-5
+returns-5 : tie.Need-returns-in-5
 returns-5 c =
-    let a = c.before.before.before.before.before.before.before.before.before.before.before.args in
-    acted-as (is-delete a.rec.now a.p a.k 2 c.before.before.before.before.before.before.before.match.keys5) c.before.before.before.before.delete.ensures
+    let a = c.args in
+    acted-as (is-delete a.rec.now a.p a.k 2 c.in-5.is) c.delete.ensures
 
-returns-6 : tie.Need-returns-6
+returns-6 : tie.Need-returns-in-12
 returns-6 c =
     let b = c.before.before.before.before.before.before.before.before in
     let a = b.args in
-    acted-as (is_open_lem a.rec.now a.p a.k 2 c.before.before.before.before.match.keys6) (open-acted b.requires.0 2 c.before.before.open.ensures)
+    acted-as (is_open_lem a.rec.now a.p a.k 2 c.in-12.is) (open-acted b.requires.0 2 c.open.ensures)
 
-returns-7 : tie.Need-returns-7
+returns-7 : tie.Need-returns-in-13
 returns-7 c =
     let b = c.before.before.before.before.before.before.before.before in
     let a = b.args in
-    acted-as (is-keep a.rec.now a.p a.k 2 c.before.before.before.before.match.keys7) (keep-acted b.requires.0 2 c.before.before.keep.ensures)
+    acted-as (is-keep a.rec.now a.p a.k 2 c.in-13.is) (keep-acted b.requires.0 2 c.keep.ensures)
 
-returns-8 : tie.Need-returns-8
+returns-8 : tie.Need-returns-in-14
 returns-8 c =
-    let a = c.before.before.before.before.before.before.before.before.before.before.before.args in
-    acted-as (is-back a.rec.now a.p a.k 2 c.before.before.before.before.before.before.before.match.keys8) (back-acted 2 c.before.before.before.before.back.ensures)
+    let a = c.args in
+    acted-as (is-back a.rec.now a.p a.k 2 c.in-14.is) (back-acted 2 c.back.ensures)
 
-returns-9 : tie.Need-returns-9
+returns-9 : tie.Need-returns-in_default
 returns-9 c =
-    let k = c.before.match.rest in
+    let k = c.in_default.in_default-own.rest in
     let b = c.before.before.before.before.before in
     let a = b.args in
     absurd
@@ -101,46 +101,46 @@ returns-9 c =
 refused-requires : tie.Need-refused-requires
 refused-requires c κs = search rules
 
-same_length : tie.Need-same-length
+same_length : tie.Need-shape_of-s-in-1
 same_length c = search rules
 
-same-length-2 : tie.Need-same-length-2
+same-length-2 : tie.Need-shape_of-j-in-1
 same-length-2 c = search rules
 
-same-length-3 : tie.Need-same-length-3
+same-length-3 : tie.Need-shape_of-s-in-2
 same-length-3 c = search rules
 
-same-length-4 : tie.Need-same-length-4
+same-length-4 : tie.Need-shape_of-j-in-2
 same-length-4 c = search rules
 
-same-length-5 : tie.Need-same-length-5
+same-length-5 : tie.Need-shape_of-s-in-3
 same-length-5 c = search rules
 
-same-length-6 : tie.Need-same-length-6
+same-length-6 : tie.Need-shape_of-j-in-3
 same-length-6 c = search rules
 
-same-length-7 : tie.Need-same-length-7
+same-length-7 : tie.Need-shape_of-s-in-4
 same-length-7 c = search rules
 
-same-length-8 : tie.Need-same-length-8
+same-length-8 : tie.Need-shape_of-j-in-4
 same-length-8 c = search rules
 
-same-length-9 : tie.Need-same-length-9
+same-length-9 : tie.Need-shape_of-s-in-5
 same-length-9 c = search rules
 
-same-length-10 : tie.Need-same-length-10
+same-length-10 : tie.Need-shape_of-j-in-5
 same-length-10 c = search rules
 
-same-length-11 : tie.Need-same-length-11
+same-length-11 : tie.Need-shape_of-j-in-12
 same-length-11 c = search rules
 
-same-length-12 : tie.Need-same-length-12
+same-length-12 : tie.Need-shape_of-j-in-13
 same-length-12 c = search rules
 
-same-length-13 : tie.Need-same-length-13
+same-length-13 : tie.Need-shape_of-s-in-14
 same-length-13 c = search rules
 
-same-length-14 : tie.Need-same-length-14
+same-length-14 : tie.Need-shape_of-j-in-14
 same-length-14 c = search rules
 
 pub write_spec : {M : Type 1} → statement M

@@ -13,78 +13,78 @@ use Rattle.requests.proofs.entry.many.Tie as tie
 
 -- ---- behind the test: both buffers as they were, and sound where it is passed
 
-abbrev test : tie.After-places-of → tie.After-are-sound
+abbrev test : tie.After-places_of-places → tie.After-are_sound
 test z = z.before.before.before.before.before.before.before
 
-passed : (z : tie.After-places-of) → sound_books full (test z).are-sound.new.0 (test z).are-sound.new.1.0 ≡ true
-passed z = tested (test z).are-sound.ensures (not-false _ z.before.before.if1.false)
+passed : (z : tie.After-places_of-places) → sound_books full (test z).are_sound.new.s (test z).are_sound.new.j.0 ≡ true
+passed z = tested (test z).are_sound.ensures (not-false _ z.if1.false)
 
-sound-here : (z : tie.After-places-of) → Booked full z.places_of.result (test z).are-sound.new.0 (test z).are-sound.new.1.0
-sound-here z = sound-lent full-paging full-indexed z.places_of.ensures (passed z)
+sound-here : (z : tie.After-places_of-places) → Booked full z.places_of-places.result (test z).are_sound.new.s (test z).are_sound.new.j.0
+sound-here z = sound-lent full-paging full-indexed z.places_of-places.ensures (passed z)
 
 -- ---- the needs
 
-are-sound-requires : tie.Need-are-sound-requires
+are-sound-requires : tie.Need-are_sound-requires
 are-sound-requires c κs = search rules
 
 refused-requires : tie.Need-refused-requires
 refused-requires c κs = search rules
 
-put-answer-requires : tie.Need-put-answer-requires
+put-answer-requires : tie.Need-put_answer-written-requires
 put-answer-requires c κs = search rules
 
-same_length : tie.Need-same-length
+same_length : tie.Need-shape_of-s-then-out-ge-ANSWER_MOST
 same_length c = search rules
 
-same-length-2 : tie.Need-same-length-2
+same-length-2 : tie.Need-shape_of-j-then-out-ge-ANSWER_MOST
 same-length-2 c = search rules
 
-same-length-3 : tie.Need-same-length-3
+same-length-3 : tie.Need-shape_of-out-then-not-are_sound
 same-length-3 c = search rules
 
-returns : tie.Need-returns
+returns : tie.Need-returns-then-out-ge-ANSWER_MOST
 returns c =
     let t = c.before.before.before.before.before.before.before.before.before.before.before in
     let w = c.before.before in
-    let e = t.are-sound.ensures in
+    let e = t.are_sound.ensures in
     many-from e.1 e.2
-    (many-told (tested e (not-true _ c.before.before.before.before.before.before.if1.true)) w.before.refused.result w.before.refused.ensures c.before.before.before.before.before.if2.true w.put-answer.ensures.0)
+    (many-told (tested e (not-true _ c.if-not-are_sound.true)) w.refused.result w.refused.ensures c.if-out-ge-ANSWER_MOST.true w.put_answer-written.ensures.0)
 
-same-length-4 : tie.Need-same-length-4
+same-length-4 : tie.Need-shape_of-s-else-out-ge-ANSWER_MOST
 same-length-4 c = search rules
 
-same-length-5 : tie.Need-same-length-5
+same-length-5 : tie.Need-shape_of-j-else-out-ge-ANSWER_MOST
 same-length-5 c = search rules
 
-returns-2 : tie.Need-returns-2
+returns-2 : tie.Need-returns-else-out-ge-ANSWER_MOST
 returns-2 c =
     let t = c.before.before.before.before.before.before in
-    let e = t.are-sound.ensures in
-    many-from e.1 e.2 (many-untold (tested e (not-true _ c.before.if1.true)) c.if2.false)
+    let e = t.are_sound.ensures in
+    many-from e.1 e.2 (many-untold (tested e (not-true _ c.if-not-are_sound.true)) c.if-out-ge-ANSWER_MOST.false)
 
-places-of-requires : tie.Need-places-of-requires
+places-of-requires : tie.Need-places_of-places-requires
 places-of-requires c κs = search rules
 
 run-requires : tie.Need-run-requires
 run-requires c κs = sound-here c.before.before.before
 
-same-length-6 : tie.Need-same-length-6
+same-length-6 : tie.Need-shape_of-s
 same-length-6 c = search rules
 
-same-length-7 : tie.Need-same-length-7
+same-length-7 : tie.Need-shape_of-j
 same-length-7 c = search rules
 
-same-length-8 : tie.Need-same-length-8
+same-length-8 : tie.Need-shape_of-out
 same-length-8 c = search rules
 
-returns-3 : tie.Need-returns-3
+returns-3 : tie.Need-returns
 returns-3 c =
     let z = c.before.before.before.before.before.before.before.before.before.before in
-    let e = (test z).are-sound.ensures in
-    many-from e.1 e.2 (many-ran z.places_of.ensures (passed z) c.before.before.before.before.before.before.run.ensures)
+    let e = (test z).are_sound.ensures in
+    many-from e.1 e.2 (many-ran z.places_of-places.ensures (passed z) c.run.ensures)
 
-pub many-spec : {M : Type 1} → statement M
-many-spec =
+pub many_spec : {M : Type 1} → statement M
+many_spec =
     tie.close
     (tie.spec
     are-sound-requires

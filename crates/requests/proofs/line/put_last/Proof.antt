@@ -9,24 +9,24 @@ use borrow.Author.Rules.{rules}
 use Rattle.requests.proofs.line.put_last.Statement.{statement}
 use Rattle.requests.proofs.line.put_last.Tie as tie
 
-put-spaced-requires : tie.Need-put-spaced-requires
+put-spaced-requires : tie.Need-put_spaced-n-requires
 put-spaced-requires c κs = search rules
 
-slice-write-out : tie.Need-slice-write-out
+slice-write-out : tie.Need-bounds-out-n
 slice-write-out c = search rules
 
-add-result : tie.Need-overflow-add-result
+add-result : tie.Need-overflow_add-result
 add-result c = search rules
 
-same_length : tie.Need-same-length
+same_length : tie.Need-shape_of-out
 same_length c = search rules
 
 returns : tie.Need-returns
 returns c =
-    let p = c.before.before.put-spaced in
-    let a = c.before.before.before.before.before.args in
+    let p = c.put_spaced-n in
+    let a = c.args in
     (front-ended newline (take a.from a.out.now) (space ∷ decimal a.m) _ _ _ p.ensures.0 (omega (arith, p.ensures.1)), omega (arith, p.ensures.1))
 
-pub put-last-spec : {M : Type 1} → statement M
-put-last-spec =
+pub put_last_spec : {M : Type 1} → statement M
+put_last_spec =
     tie.close (tie.spec put-spaced-requires slice-write-out add-result same_length returns)

@@ -15,98 +15,98 @@ use Rattle.requests.proofs.lines.put_looked.Statement.{statement}
 use Rattle.requests.proofs.lines.put_looked.Tie as tie
 
 -- the place that is found
-place : (c : tie.After-t) → let a = c.before.before.before.before.before.before.args in some c.t.given.0.0 ≡ place_of (is_named (text_bytes a.name)) (parse a.p a.places a.s.now).tables
-place c = answer-is c.t.given.1 c.before.before.get-table.ensures
+place : (c : tie.In-At-2) → let a = c.args in some c.t-1.given.0.0 ≡ place_of (is_named (text_bytes a.name)) (parse a.p a.places a.s.now).tables
+place c = answer-is c.t-1.given.1 c.get_table.ensures
 
-get-table-requires : tie.Need-get-table-requires
+get-table-requires : tie.Need-get_table-requires
 get-table-requires c κs =
     let b = c.before.before.before in
     (held-catalog b.args.p b.args.places b.args.s.now b.requires.0, b.requires.1)
 
-enum-known-t : tie.Need-enum-known-t
+enum-known-t : tie.Need-enum_known-t
 enum-known-t c = search rules
 
-is-indexed-requires : tie.Need-is-indexed-requires
+is-indexed-requires : tie.Need-is_indexed-requires
 is-indexed-requires c κs =
-    let f = c.before in
-    let b = f.before.before.before.before.before.before in
+    let f = c in
+    let b = f.before.before.before.before.before in
     let a = b.args in
-    (b.requires.0, table-known a.p a.places a.s.now (text_bytes a.name) f.t.given.0.0 (place f))
+    (b.requires.0, table-known a.p a.places a.s.now (text_bytes a.name) f.in-At.t (place f))
 
-next-key-requires : tie.Need-next-key-requires
+next-key-requires : tie.Need-next_key-x-requires
 next-key-requires c κs =
-    let x = c.before.is-indexed in
-    let f = c.before.before.before in
-    let b = f.before.before.before.before.before.before in
+    let x = c.is_indexed in
+    let f = c.before.before in
+    let b = f.before.before.before.before.before in
     let a = b.args in (
       b.requires.0,
       b.requires.1,
       b.requires.2,
-      column-indexed a.p a.places a.s.now (text_bytes a.name) f.t.given.0.0 (place f) a.column x.result x.ensures c.if1.true,
+      column-indexed a.p a.places a.s.now (text_bytes a.name) f.in-At.t (place f) a.column x.result x.ensures c.if-is_indexed.true,
     )
 
-put-single-requires : tie.Need-put-single-requires
+put-single-requires : tie.Need-put_single-requires
 put-single-requires c κs = search rules
 
-same_length : tie.Need-same-length
+same_length : tie.Need-shape_of-out-then-x
 same_length c = search rules
 
-returns : tie.Need-returns
+returns : tie.Need-returns-then-x
 returns c =
-    let w = c.before.before.put-single in
+    let w = c.put_single in
     let h = c.before.before.before.before.before in
-    let y = h.before.next-key in
+    let y = h.next_key-x in
     let g = h.before.before in
-    let x = g.before.is-indexed in
-    let f = g.before.before.before in
-    let b = f.before.before.before.before.before.before in
+    let x = g.is_indexed in
+    let f = g.before.before in
+    let b = f.before.before.before.before.before in
     let a = b.args in
     lined _ _ _ _ _ _ _ y.ensures.1 _
-    (lookup_first a.p a.places a.s.now b.requires.0 (text_bytes a.name) a.column (values_from a.rec.now a.count a.at) 0 (meaning a.after) f.t.given.0.0 (place f) x.result x.ensures g.if1.true
-    y.result.found (held y.result.key) y.ensures.0 h.if2.true 0)
+    (lookup_first a.p a.places a.s.now b.requires.0 (text_bytes a.name) a.column (values_from a.rec.now a.count a.at) 0 (meaning a.after) f.in-At.t (place f) x.result x.ensures g.if-is_indexed.true
+    y.result.found (held y.result.key) y.ensures.0 h.if-x.true 0)
     w.ensures.0
     w.ensures.1
 
-enum_told : tie.Need-enum-told
+enum_told : tie.Need-enum_told-1
 enum_told c = search rules
 
-returns-2 : tie.Need-returns-2
+returns-2 : tie.Need-returns-else-x
 returns-2 c =
-    let y = c.before.next-key in
+    let y = c.next_key-x in
     let g = c.before.before in
-    let x = g.before.is-indexed in
-    let f = g.before.before.before in
-    let b = f.before.before.before.before.before.before in
+    let x = g.is_indexed in
+    let f = g.before.before in
+    let b = f.before.before.before.before.before in
     let a = b.args in
     none-lined _ _ _ _ _ _ _ b.requires.2
-    (lookup-ended a.p a.places a.s.now b.requires.0 (text_bytes a.name) a.column (values_from a.rec.now a.count a.at) 0 (meaning a.after) f.t.given.0.0 (place f) x.result x.ensures g.if1.true
-    y.result.found (held y.result.key) y.ensures.0 c.if2.false)
+    (lookup-ended a.p a.places a.s.now b.requires.0 (text_bytes a.name) a.column (values_from a.rec.now a.count a.at) 0 (meaning a.after) f.in-At.t (place f) x.result x.ensures g.if-is_indexed.true
+    y.result.found (held y.result.key) y.ensures.0 c.if-x.false)
     refl
     refl
 
-returns-3 : tie.Need-returns-3
+returns-3 : tie.Need-returns-else-is_indexed
 returns-3 c =
-    let x = c.before.is-indexed in
-    let f = c.before.before.before in
-    let b = f.before.before.before.before.before.before in
+    let x = c.is_indexed in
+    let f = c.before.before in
+    let b = f.before.before.before.before.before in
     let a = b.args in
     none-lined _ _ _ _ _ _ _ b.requires.2
-    (lookup-no-index a.p a.places a.s.now b.requires.0 (text_bytes a.name) a.column (values_from a.rec.now a.count a.at) 0 (meaning a.after) f.t.given.0.0 (place f) x.result x.ensures c.if1.false)
+    (lookup-no-index a.p a.places a.s.now b.requires.0 (text_bytes a.name) a.column (values_from a.rec.now a.count a.at) 0 (meaning a.after) f.in-At.t (place f) x.result x.ensures c.if-is_indexed.false)
     refl
     refl
 
-returns-4 : tie.Need-returns-4
+returns-4 : tie.Need-returns-in_default
 returns-4 c =
-    let g = c.before.before in
+    let g = c.before in
     let b = g.before.before.before.before in
     let a = b.args in
     none-lined _ _ _ _ _ _ _ b.requires.2
-    (lookup-no-table a.p a.places a.s.now b.requires.0 (text_bytes a.name) a.column (values_from a.rec.now a.count a.at) 0 (meaning a.after) (answer-is c.enum_told.given.1 g.get-table.ensures))
+    (lookup-no-table a.p a.places a.s.now b.requires.0 (text_bytes a.name) a.column (values_from a.rec.now a.count a.at) 0 (meaning a.after) (answer-is c.in_default.is g.get_table.ensures))
     refl
     refl
 
-pub put-looked-spec : {M : Type 1} → statement M
-put-looked-spec =
+pub put_looked_spec : {M : Type 1} → statement M
+put_looked_spec =
     tie.close
     (tie.spec
     get-table-requires

@@ -10,45 +10,45 @@ use Rattle.requests.proofs.NextLines.{lined, none-lined, names-ended, names-insi
 use Rattle.requests.proofs.lines.put_named.Statement.{statement}
 use Rattle.requests.proofs.lines.put_named.Tie as tie
 
-table-count-requires : tie.Need-table-count-requires
+table-count-requires : tie.Need-table_count-requires
 table-count-requires c κs =
     let b = c.before.before in
     inside-header b.args.p b.args.places b.args.s.now (held-inside b.args.p b.args.places b.args.s.now b.requires.0)
 
-returns : tie.Need-returns
+returns : tie.Need-returns-then-table_count-i
 returns c =
     let g = c.before in
-    let a = g.before.before.before.args in
-    none-lined _ _ _ _ _ _ _ null-proper (names-ended a.p a.places a.s.now g.table-count.result g.table-count.ensures a.i null c.if1.true) refl refl
+    let a = g.args in
+    none-lined _ _ _ _ _ _ _ null-proper (names-ended a.p a.places a.s.now g.table_count.result g.table_count.ensures a.i null c.if-table_count-i.true) refl refl
 
-name-at-requires : tie.Need-name-at-requires
+name-at-requires : tie.Need-name_at-name-requires
 name-at-requires c κs =
     let g = c.before in
     let b = g.before.before.before in
     let a = b.args in
-    (held-catalog a.p a.places a.s.now b.requires.0, names-inside a.p a.places a.s.now g.table-count.result g.table-count.ensures a.i c.if1.false)
+    (held-catalog a.p a.places a.s.now b.requires.0, names-inside a.p a.places a.s.now g.table_count.result g.table_count.ensures a.i c.if-table_count-i.false)
 
-put-single-requires : tie.Need-put-single-requires
+put-single-requires : tie.Need-put_single-requires
 unfolding Proper
-put-single-requires c κs = (c.before.before.before.before.before.before.requires.1, c.before.name-at.ensures.proper)
+put-single-requires c κs = (c.requires.1, c.name_at-name.ensures.proper)
 
-add-t15 : tie.Need-overflow-add-t15
+add-t15 : tie.Need-overflow_add-result
 add-t15 c = search rules
 
-same_length : tie.Need-same-length
+same_length : tie.Need-shape_of-out
 same_length c = search rules
 
-returns-2 : tie.Need-returns-2
+returns-2 : tie.Need-returns
 returns-2 c =
-    let x = c.before.before.put-single in
-    let n = c.before.before.before.before.name-at in
+    let x = c.put_single in
+    let n = c.name_at-name in
     let l = c.before.before.before.before.before in
     let g = l.before in
-    let a = g.before.before.before.args in
-    lined _ _ _ _ _ _ _ null-proper _ (names-first a.p a.places a.s.now g.table-count.result g.table-count.ensures a.i l.if1.false n.result n.ensures null _) x.ensures.0 x.ensures.1
+    let a = g.args in
+    lined _ _ _ _ _ _ _ null-proper _ (names-first a.p a.places a.s.now g.table_count.result g.table_count.ensures a.i l.if-table_count-i.false n.result n.ensures null _) x.ensures.0 x.ensures.1
 
-pub put-named-spec : {M : Type 1} → statement M
-put-named-spec =
+pub put_named_spec : {M : Type 1} → statement M
+put_named_spec =
     tie.close
     (tie.spec
     table-count-requires

@@ -18,22 +18,22 @@ use Rattle.requests.proofs.lines.put_scanned.Statement.{statement}
 use Rattle.requests.proofs.lines.put_scanned.Tie as tie
 
 -- the place that is found
-place : (c : tie.After-i) → let a = c.before.before.before.before.before.args in
-    some c.i.given.0.0 ≡ map (λ (j : ℕ). a.from + j) (place_of (of_table (text_bytes a.name)) (drop a.from (parse a.p a.places a.s.now).rows))
-place c = answer-is c.i.given.1 c.before.before.next_row.ensures
+place : (c : tie.In-At-2) → let a = c.args in
+    some c.i-1.given.0.0 ≡ map (λ (j : ℕ). a.from + j) (place_of (of_table (text_bytes a.name)) (drop a.from (parse a.p a.places a.s.now).rows))
+place c = answer-is c.i-1.given.1 c.next_row.ensures
 
-next-row-requires : tie.Need-next-row-requires
+next-row-requires : tie.Need-next_row-requires
 next-row-requires c κs = let b = c.before.before in (b.requires.0, b.requires.2)
 
-enum-known-i : tie.Need-enum-known-i
+enum-known-i : tie.Need-enum_known-i
 enum-known-i c = search rules
 
-put-stored-requires : tie.Need-put-stored-requires
+put-stored-requires : tie.Need-put_stored-requires
 put-stored-requires c κs =
-    let f = c.before.before in
-    let b = f.before.before.before.before.before in
+    let f = c.before in
+    let b = f.before.before.before.before in
     let a = b.args in
-    let i = f.i.given.0.0 in (
+    let i = f.in-At.i in (
       b.requires.0,
       b.requires.1,
       scan-inside a.p a.places a.s.now b.requires.0 (text_bytes a.name) a.from null i (place f),
@@ -42,41 +42,41 @@ put-stored-requires c κs =
       b.requires.3,
     )
 
-add-t13 : tie.Need-overflow-add-t13
+add-t13 : tie.Need-overflow_add-result
 add-t13 c =
-    let f = c.before.before.before.before.before in
-    let b = f.before.before.before.before.before in
+    let f = c.before.before.before.before in
+    let b = f.before.before.before.before in
     let a = b.args in
     omega (
       arith,
-      scan-inside a.p a.places a.s.now b.requires.0 (text_bytes a.name) a.from null f.i.given.0.0 (place f),
+      scan-inside a.p a.places a.s.now b.requires.0 (text_bytes a.name) a.from null f.in-At.i (place f),
       (held-state a.p a.places a.s.now b.requires.0).few-rows,
       b.requires.0.places,
     )
 
-enum_told : tie.Need-enum-told
+enum_told : tie.Need-enum_told-1
 enum_told c = search rules
 
-same_length : tie.Need-same-length
+same_length : tie.Need-shape_of-out
 same_length c = search rules
 
-returns : tie.Need-returns
+returns : tie.Need-returns-in-At
 returns c =
-    let w = c.before.before.put-stored in
-    let f = c.before.before.before.before.before in
-    let b = f.before.before.before.before.before in
+    let w = c.put_stored in
+    let f = c.before.before.before.before in
+    let b = f.before.before.before.before in
     let a = b.args in
-    lined _ _ _ _ _ _ _ null-proper _ (scan-first a.p a.places a.s.now b.requires.0 (text_bytes a.name) a.from null f.i.given.0.0 (place f) _) w.ensures.0 w.ensures.1
+    lined _ _ _ _ _ _ _ null-proper _ (scan-first a.p a.places a.s.now b.requires.0 (text_bytes a.name) a.from null f.in-At.i (place f) _) w.ensures.0 w.ensures.1
 
-returns-2 : tie.Need-returns-2
+returns-2 : tie.Need-returns-in-Nothing
 returns-2 c =
-    let g = c.before.before in
+    let g = c.before in
     let b = g.before.before.before in
     let a = b.args in
-    none-lined _ _ _ _ _ _ _ null-proper (scan-ended a.p a.places a.s.now b.requires.0 (text_bytes a.name) a.from null (answer-is c.enum_told.given.1 g.next_row.ensures)) refl refl
+    none-lined _ _ _ _ _ _ _ null-proper (scan-ended a.p a.places a.s.now b.requires.0 (text_bytes a.name) a.from null (answer-is c.in-Nothing.is g.next_row.ensures)) refl refl
 
-pub put-scanned-spec : {M : Type 1} → statement M
-put-scanned-spec =
+pub put_scanned_spec : {M : Type 1} → statement M
+put_scanned_spec =
     tie.close
     (tie.spec
     next-row-requires
