@@ -14,7 +14,7 @@ use Rattle.rules.specs.Profile.{full}
 use Rattle.rules.specs.Journal.{Books, is_open}
 use Rattle.rules.specs.Layout.{image, parse, places_of}
 use Rattle.rules.specs.Request.{Request, Open, Keep, Back}
-use Rattle.rules.specs.Step.{after, run_after}
+use Rattle.rules.specs.Step.{after, changed, run_after}
 use Rattle.rules.specs.Sound.{every}
 use Rattle.rules.specs.Readable.{readable}
 use Rattle.rules.specs.Demand.{Demand3}
@@ -57,7 +57,7 @@ module _ (R : ℕ) where
   pub after-places : (b : Books) (ws : List (Read Request)) → (books_after full R b ws).journal.places ≡ b.journal.places
   unfolding books_after
   after-places b [] = refl
-  after-places b (w ∷ ws) = after-places _ ws ∙ noted-places (outcome_of full R b w).changes b.journal
+  after-places b (w ∷ ws) = after-places (changed (outcome_of full R b w).changes b) ws ∙ noted-places (outcome_of full R b w).changes b.journal
 
   -- opened, any records but keep and back, broken ones and refused ones too, and taken back: the same books
   pub back-books : (b : Books) → Right full R b → is_open b.journal ≡ false → (n m : ℕ) (ws : List (Read Request))

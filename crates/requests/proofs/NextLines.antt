@@ -257,7 +257,8 @@ kept_next k w (x ∷ xs) s e = on (before k x) refl e (kept_next k w xs s.1)
         rw (self ord_value x)
         (keep-ext (before x) (before k) xs (λ y m. ap is_lt (above y m) ∙ sym (ap is_lt (ord_value.trans k x y (lt_at ord_value k x h) (above y m)))))
         in
-        rw (h, ← some-injective x w f) (ap (λ (l : List Value). x ∷ l) (sym behind))
+        let first : keep (before k) (x ∷ xs) ≡ x ∷ keep (before x) (x ∷ xs) = rw h (ap (λ (l : List Value). x ∷ l) (sym behind)) in
+        subst (λ (v : Value). keep (before k) (x ∷ xs) ≡ v ∷ keep (before v) (x ∷ xs)) (some-injective x w f) first
     on false h f r =
         let l : before w x ≡ false = ap is_lt (ord_value.flip x w ∙ ap opp (above w (find-in (before k) xs w f).0)) in
         rw (h, l) (r f)

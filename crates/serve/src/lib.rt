@@ -17,9 +17,9 @@ use rules::answer::Refusal;
 use rules::profile::Profile;
 use rules::{answer, profile};
 use sound::{fresh, journal_test};
-
-// Where there is no such file.
-pub const NONE: i32 = -1;
+use std::fs::File;
+use std::io;
+use std::io::{Read, Seek, SeekFrom, Write};
 
 // How it came to an end.
 #[derive(Clone, Copy)]
@@ -29,11 +29,11 @@ pub enum End {
     // the store or its journal is not sound: 38 was said and nothing was read
     Unsound,
     // the input could not be read on
-    Unread,
+    Unread(io::Error),
     // the answers could not be written on
-    Unwritten,
+    Unwritten(io::Error),
     // the log could not be kept: what came in last is not carried out
-    Unlogged,
+    Unlogged(io::Error),
 }
 
 // What was done: records answered and bytes read; and of the input's last bytes how many are no whole record yet, or how many are missing of a
@@ -76,38 +76,36 @@ struct Rest {
     pause: Pause,
 }
 
-// Writes a part of the text, where there is a file for it.
-fn write_out(to: i32, text: &[u8]) -> bool {
-    if to < 0 {
-        return true;
+// What can't be appended whole is cut off again, where it began.
+fn append(log: &mut File, piece: &[u8]) -> io::Result<()> {
+    let at = log.seek(SeekFrom::Current(0))?;
+    let mut kept = log.write_all(piece);
+    if kept.is_ok() {
+        kept = log.sync_data();
     }
-    io::write_all(to, text)
+    if kept.is_err() {
+        let _cut = log.set_len(at);
+    }
+    kept
 }
 
-// Appends what came in to the log, where there is one, and waits until the disk has it. What can't be kept whole is cut off again.
-fn keep_log(log: i32, piece: &[u8]) -> bool {
-    if log < 0 {
-        return true;
+// Appends what came in to the log, where there is one, and waits until the disk has it.
+fn keep_log(log: &mut Option<File>, piece: &[u8]) -> io::Result<()> {
+    match log {
+        Some(file) => append(file, piece),
+        None => Ok(()),
     }
-    let at = libc::lseek(log, 0, libc::SEEK_CUR);
-    if io::write_all(log, piece) {
-        if libc::fdatasync(log) == 0 {
-            return true;
-        }
-    }
-    libc::ftruncate(log, at);
-    false
 }
 
 // Answers all the records at hand, turn by turn.
-fn answer_all(
+fn answer_all<O: Write>(
     s: &mut [u8],
     p: Profile,
     places: usize,
     j: &mut [u8],
     input: &mut [u8],
     out: &mut [u8],
-    to: i32,
+    to: &mut O,
     f: Flow,
 ) -> Rest
     requires booked { Booked p places s.old j.old }
@@ -116,19 +114,19 @@ fn answer_all(
     ensures { Rested p places f (lent s.old j.old) (lent s.new j.new) input.old input.new result }
 {
     let mut g = f;
-    let mut records = 0;
+    let mut records: u64 = 0;
     loop {
         let t = flow::take_turn(s, p, places, j, input, out, g);
         let next = t.flow;
         let ran = t.ran;
         g = next;
-        records = std::num::wrapping_add_u64(records, ran.count as u64);
+        records = records.wrapping_add(ran.count as u64);
         let n = ran.written;
-        if !write_out(to, &out[0..n]) {
+        if let Err(e) = to.write_all(&out[0..n]) {
             return Rest {
                 flow: g,
                 records,
-                pause: Pause::Over(End::Unwritten),
+                pause: Pause::Over(End::Unwritten(e)),
             };
         }
         let halt = ran.halt;
@@ -173,48 +171,45 @@ fn told(end: End, records: u64, bytes: u64, f: Flow) -> Report
 }
 
 // Reads once behind the bytes at hand, where there is room, and appends what came in to the log.
-fn take_in(from: i32, log: i32, input: &mut [u8], f: Flow) -> Taken
+fn take_in<I: Read>(from: &mut I, log: &mut Option<File>, input: &mut [u8], f: Flow) -> Taken
     requires { f.have < length input.old }
     ensures { TakenIn f input.old input.new result }
 {
     let have = f.have;
-    let got = libc::read(from, &mut input[have..]);
-    let n = io::count(got, &input[have..]);
-    let flow = flow::arrived(f, n, input);
-    if got < 0 {
-        return Taken {
-            flow,
-            count: n,
-            piece: Piece::Lost(End::Unread),
-        };
-    }
-    let end = have + n;
-    if !keep_log(log, &input[have..end]) {
-        return Taken {
-            flow,
-            count: n,
-            piece: Piece::Lost(End::Unlogged),
-        };
-    }
-    Taken {
-        flow,
-        count: n,
-        piece: Piece::Kept,
+    match from.read(&mut input[have..]) {
+        Err(e) => Taken {
+            flow: flow::arrived(f, 0, input),
+            count: 0,
+            piece: Piece::Lost(End::Unread(e)),
+        },
+        Ok(n) => {
+            let flow = flow::arrived(f, n, input);
+            let end = have + n;
+            let piece = match keep_log(log, &input[have..end]) {
+                Ok(()) => Piece::Kept,
+                Err(e) => Piece::Lost(End::Unlogged(e)),
+            };
+            Taken {
+                flow,
+                count: n,
+                piece,
+            }
+        }
     }
 }
 
 // Reads the input on, piece by piece, and answers what is at hand. `last` says that nothing follows the input's end, so that a record cut off there is
 // answered. Nothing says that a file ends, so the reads are counted down from a number that no run uses up.
-fn run(
+fn run<I: Read, O: Write>(
     s: &mut [u8],
     p: Profile,
     places: usize,
     j: &mut [u8],
     input: &mut [u8],
     out: &mut [u8],
-    from: i32,
-    to: i32,
-    log: i32,
+    from: &mut I,
+    to: &mut O,
+    log: &mut Option<File>,
     last: bool,
 ) -> Report
     requires booked { Booked p places s.old j.old }
@@ -223,8 +218,8 @@ fn run(
     ensures { Course p places (lent s.old j.old) (lent s.new j.new) last result }
 {
     let mut f = flow::start();
-    let mut records = 0;
-    let mut bytes = 0;
+    let mut records: u64 = 0;
+    let mut bytes: u64 = 0;
     let mut reads = u64::MAX;
     while 0 < reads {
         let taken = take_in(from, log, input, f);
@@ -239,10 +234,10 @@ fn run(
         if next.ended && !last {
             return told(End::Whole, records, bytes, f);
         }
-        bytes = std::num::wrapping_add_u64(bytes, taken.count as u64);
+        bytes = bytes.wrapping_add(taken.count as u64);
         let rest = answer_all(s, p, places, j, input, out, to, next);
         let after = rest.flow;
-        records = std::num::wrapping_add_u64(records, rest.records);
+        records = records.wrapping_add(rest.records);
         let pause = rest.pause;
         match pause {
             Pause::Waiting => {}
@@ -253,18 +248,26 @@ fn run(
         f = after;
         reads -= 1;
     }
-    told(End::Unread, records, bytes, f)
+    let never = io::Error::from(io::ErrorKind::Other);
+    told(End::Unread(never), records, bytes, f)
 }
 
 // Tests both once, and runs the input over them; 38 where one is not sound.
-fn over(s: &mut [u8], j: &mut [u8], from: i32, to: i32, log: i32, last: bool) -> Report
+fn over<I: Read, O: Write>(
+    s: &mut [u8],
+    j: &mut [u8],
+    from: &mut I,
+    to: &mut O,
+    log: &mut Option<File>,
+    last: bool,
+) -> Report
     ensures { Served full (lent s.old j.old) (lent s.new j.new) last result }
 {
-    let mut input = io::large_buffer();
-    let mut out = io::large_buffer();
+    let mut input = [0u8; 65536];
+    let mut out = [0u8; 65536];
     if !journal_test::are_sound(s, j) {
         let n = line::put_answer(&mut out, answer::refused(Refusal::StoreUnsound, 0));
-        write_out(to, &out[0..n]);
+        let _written = to.write_all(&out[0..n]);
         return told(End::Unsound, 0, 0, flow::start());
     }
     let places = fresh::places_of(s, profile::FULL);
@@ -284,7 +287,13 @@ fn over(s: &mut [u8], j: &mut [u8], from: i32, to: i32, log: i32, last: bool) ->
 
 // Answers the records that come from one file in lines to the other. Each piece of the input is appended to the log, if there is one, and on the disk
 // before a record in it is carried out and answered.
-pub fn serve(s: &mut [u8], j: &mut [u8], from: i32, to: i32, log: i32) -> Report
+pub fn serve<I: Read, O: Write>(
+    s: &mut [u8],
+    j: &mut [u8],
+    from: &mut I,
+    to: &mut O,
+    log: &mut Option<File>,
+) -> Report
     ensures { Served full (lent s.old j.old) (lent s.new j.new) true result }
 {
     over(s, j, from, to, log, true)
@@ -292,8 +301,10 @@ pub fn serve(s: &mut [u8], j: &mut [u8], from: i32, to: i32, log: i32) -> Report
 
 // Carries the records of a log out again, without a word: a batch that was open is open again. Where it ends in the middle of a record, the report says
 // so.
-pub fn replay(s: &mut [u8], j: &mut [u8], log: i32) -> Report
+pub fn replay<I: Read>(s: &mut [u8], j: &mut [u8], log: &mut I) -> Report
     ensures { Served full (lent s.old j.old) (lent s.new j.new) false result }
 {
-    over(s, j, log, NONE, NONE, false)
+    let mut silent = io::sink();
+    let mut none = None;
+    over(s, j, log, &mut silent, &mut none, false)
 }

@@ -24,7 +24,6 @@ use Rattle.rules.specs.declared.profile.Profile.{Profile}
 use Rattle.rules.specs.State.{Name, Table, Row, cmp_row, table_named, is_row, has_row}
 use Rattle.rules.specs.Layout.{Area, Rows, count_place, count_width, area_at, record_width, in_area, lists, parse, read_row, read_table}
 use Rattle.rules.specs.Sound.{has_table}
-use Rattle.rules.specs.Sound as S
 use Rattle.rules.proofs.Tests.{all_head, all_tail, every-at, sorted-is}
 use Rattle.rules.proofs.Lists.{any_none, any-ext, in_map}
 use Rattle.rules.proofs.Index.{ord_row}

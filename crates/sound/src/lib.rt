@@ -1,5 +1,6 @@
 // A fresh store, and the test whether any lent bytes are a sound store, and its journal.
 #![tactic(auto)]
+
 pub mod fresh; // a fresh store in a lent buffer, and which lengths a store has
 pub mod layout_test; // the header, and zeros where nothing stands
 pub mod schema_test; // the tables: each a record, sorted, without a fault

@@ -1,6 +1,5 @@
 -- `checks::row_fault::cell_fault` meets its contract. Assumes nothing.
 use mathlib.Core.Path.{sym, ◌∙◌}
-use borrow.Author.Tests.{not-true, not-false}
 use Rattle.values.specs.Meaning.{text_bytes, meaning}
 use Rattle.rules.specs.Layout.{parse}
 use Rattle.laid.specs.Column.{column_of}
@@ -22,7 +21,7 @@ returns c =
     kind-refuses (parse a.p a.places a.s.now).rows (text_bytes a.name) a.at a.update (meaning a.key) a.column (column_of a.c) (meaning a.v)
     c.kind_fault-k.result
     c.kind_fault-k.ensures
-    (sym c.is_accepted.ensures ∙ not-true _ c.if-not-is_accepted.true)
+    (sym c.is_accepted.ensures ∙ c.if-not-is_accepted.true)
 
 is-missing-requires : tie.Need-is_missing-requires
 is-missing-requires c κs = search rules
@@ -34,7 +33,7 @@ returns-2 c =
     target-refuses (parse a.p a.places a.s.now).rows (text_bytes a.name) a.at a.update (meaning a.key) a.column (column_of a.c) (meaning a.v)
     c.kind_fault-k.result
     c.kind_fault-k.ensures
-    (sym c.is_accepted.ensures ∙ not-false _ c.if-not-is_accepted.false)
+    (sym c.is_accepted.ensures ∙ c.if-not-is_accepted.false)
     c.is_missing.result
     c.is_missing.ensures
     c.if-is_missing.true
@@ -49,7 +48,7 @@ returns-3 c =
     value-refuses (parse a.p a.places a.s.now).rows (text_bytes a.name) a.at a.update (meaning a.key) a.column (column_of a.c) (meaning a.v)
     c.kind_fault-k.result
     c.kind_fault-k.ensures
-    (sym c.is_accepted.ensures ∙ not-false _ c.if-not-is_accepted.false)
+    (sym c.is_accepted.ensures ∙ c.if-not-is_accepted.false)
     c.is_missing.result
     c.is_missing.ensures
     c.if-is_missing.false
@@ -64,7 +63,7 @@ returns-4 c =
     cell-fit (parse a.p a.places a.s.now).rows (text_bytes a.name) a.at a.update (meaning a.key) a.column (column_of a.c) (meaning a.v)
     c.kind_fault-k.result
     c.kind_fault-k.ensures
-    (sym c.is_accepted.ensures ∙ not-false _ c.if-not-is_accepted.false)
+    (sym c.is_accepted.ensures ∙ c.if-not-is_accepted.false)
     c.is_missing.result
     c.is_missing.ensures
     c.if-is_missing.false

@@ -3,7 +3,6 @@ use mathlib.Core.Path.{◌≡◌, refl, sym, ◌∙◌}
 use Prim.Native.Nat.{◌-◌, ◌≤◌, ◌<◌}
 use native.Mathlib.Omega.{arith}
 use lib.ListN.{length}
-use borrow.Author.Tests.{not-true, not-false}
 use Rattle.values.specs.declared.value.Cell.{Cell}
 use Rattle.values.specs.declared.value.Value.TheVariants.{Null}
 use Rattle.values.specs.Meaning.{text_bytes}
@@ -147,7 +146,7 @@ returns c =
     c.read_column-c.ensures.is
     c.cell_fault-f.result
     c.cell_fault-f.ensures
-    (sym c.is_accepted.ensures ∙ not-true _ c.if-not-is_accepted.true)
+    (sym c.is_accepted.ensures ∙ c.if-not-is_accepted.true)
     c.loop-j.invariant.1
 
 add-j : tie.Need-overflow_add-j invariant-loop decreases-loop
@@ -179,7 +178,7 @@ loop-again c =
           c.read_column-c.ensures.is
           c.cell_fault-f.result
           c.cell_fault-f.ensures
-          (sym c.is_accepted.ensures ∙ not-false _ c.if-not-is_accepted.false)
+          (sym c.is_accepted.ensures ∙ c.if-not-is_accepted.false)
           c.loop-j.invariant.1,
     )
 

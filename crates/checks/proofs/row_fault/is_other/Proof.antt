@@ -1,5 +1,6 @@
 -- `checks::row_fault::is_other` meets its contract. Assumes nothing.
 use mathlib.Core.Path.{◌≡◌, refl, ap, ◌∙◌}
+use mathlib.Core.Bool.{not}
 use native.Mathlib.Omega.{arith}
 use lib.ListN.{length}
 use Rattle.values.specs.Meaning.{text_bytes, meaning, held}
@@ -53,7 +54,7 @@ returns-2 c =
     c.entry_record-rec.ensures
     c.is_of.result
     c.is_of.ensures
-    c.if-not-is_of.true
+    (ap not c.if-not-is_of.true)
 
 returns-3 : tie.Need-returns-then-not-update
 returns-3 c =
@@ -65,8 +66,8 @@ returns-3 c =
     c.entry_record-rec.ensures
     c.is_of.result
     c.is_of.ensures
-    c.if-not-is_of.false
-    c.if-not-update.true
+    (ap not c.if-not-is_of.false)
+    (ap not c.if-not-update.true)
 
 sub-read-cell : tie.Need-slice_bounds-read_cell-count
 sub-read-cell c =
@@ -111,8 +112,8 @@ returns-4 c =
     c.entry_record-rec.ensures
     c.is_of.result
     c.is_of.ensures
-    c.if-not-is_of.false
-    c.if-not-update.false
+    (ap not c.if-not-is_of.false)
+    (ap not c.if-not-update.false)
     (held c.read_cell-k.result)
     c.read_cell-k.ensures.0
     c.is_same.result

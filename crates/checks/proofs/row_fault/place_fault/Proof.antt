@@ -1,4 +1,6 @@
 -- `checks::row_fault::place_fault` meets its contract. Assumes nothing.
+use mathlib.Core.Path.{ap}
+use mathlib.Core.Bool.{not}
 use native.Mathlib.Omega.{arith}
 use Rattle.rules.specs.Layout.{parse}
 use Rattle.laid.proofs.Inside.{inside-header}
@@ -11,12 +13,12 @@ use Rattle.checks.proofs.row_fault.place_fault.Tie as tie
 returns : tie.Need-returns-then-not-stored
 returns c =
     let a = c.args in
-    row-absent a.places (parse a.p a.places a.s.now).rows a.stored a.update c.if-update.true c.if-not-stored.true
+    row-absent a.places (parse a.p a.places a.s.now).rows a.stored a.update c.if-update.true (ap not c.if-not-stored.true)
 
 returns-2 : tie.Need-returns-then-update
 returns-2 c =
     let a = c.args in
-    update-fits a.places (parse a.p a.places a.s.now).rows a.stored a.update c.if-update.true c.if-not-stored.false
+    update-fits a.places (parse a.p a.places a.s.now).rows a.stored a.update c.if-update.true (ap not c.if-not-stored.false)
 
 row-count-requires : tie.Need-row_count-requires
 row-count-requires c κs =

@@ -3,7 +3,6 @@ use mathlib.Core.Path.{sym, ap, ◌∙◌}
 use lib.Dec.{eqb}
 use lib.ListN.{get_or}
 use native.Mathlib.Omega.{arith}
-use borrow.Author.Tests.{not-true, not-false}
 use Rattle.rules.specs.State.{Column}
 use Rattle.rules.specs.Layout.{read_table, parse}
 use Rattle.laid.specs.Column.{column_at}
@@ -44,7 +43,7 @@ returns c =
     key-refuses ts (read_table a.p a.rec.now) a.i
     (column_at a.p a.rec.now a.i) (eqb a.i (get_or a.rec.now 25 0)) (ap (eqb a.i) (key-byte a.p a.rec.now)) k.result
     (k.ensures ∙ ap (λ (x : Column). kind_of_fault (key_fault (eqb a.i (get_or a.rec.now 25 0)) x)) c.read_column-c.ensures.is)
-    (sym c.is_accepted.ensures ∙ not-true _ c.if-not-is_accepted.true)
+    (sym c.is_accepted.ensures ∙ c.if-not-is_accepted.true)
 
 default-fault-requires : tie.Need-default_fault-d-requires
 default-fault-requires c κs = search rules
@@ -62,9 +61,9 @@ returns-2 c =
     default-refuses ts (read_table a.p a.rec.now)
     a.i (column_at a.p a.rec.now a.i) (eqb a.i (get_or a.rec.now 25 0)) (ap (eqb a.i) (key-byte a.p a.rec.now)) k.result
     (k.ensures ∙ ap (λ (x : Column). kind_of_fault (key_fault (eqb a.i (get_or a.rec.now 25 0)) x)) x.ensures.is)
-    (sym c.is_accepted.ensures ∙ not-false _ c.if-not-is_accepted.false) d.result
+    (sym c.is_accepted.ensures ∙ c.if-not-is_accepted.false) d.result
     (d.ensures ∙ ap (λ (x : Column). kind_of_fault (default_fault x)) x.ensures.is)
-    (sym c.is_accepted-2.ensures ∙ not-true _ c.if-not-is_accepted-2.true)
+    (sym c.is_accepted-2.ensures ∙ c.if-not-is_accepted-2.true)
 
 reference-fault-requires : tie.Need-reference_fault-requires
 reference-fault-requires c κs = search rules
@@ -81,9 +80,9 @@ returns-3 c =
     (read_table a.p a.rec.now) a.i (column_at a.p a.rec.now a.i) (eqb a.i (get_or a.rec.now 25 0))
     (ap (eqb a.i) (key-byte a.p a.rec.now)) k.result
     (k.ensures ∙ ap (λ (x : Column). kind_of_fault (key_fault (eqb a.i (get_or a.rec.now 25 0)) x)) x.ensures.is)
-    (sym y.ensures ∙ not-false _ c.if-not-is_accepted.false) d.result
+    (sym y.ensures ∙ c.if-not-is_accepted.false) d.result
     (d.ensures ∙ ap (λ (x : Column). kind_of_fault (default_fault x)) x.ensures.is)
-    (sym c.is_accepted-2.ensures ∙ not-false _ c.if-not-is_accepted-2.false) c.reference_fault.result
+    (sym c.is_accepted-2.ensures ∙ c.if-not-is_accepted-2.false) c.reference_fault.result
     (c.reference_fault.ensures ∙ ap (λ (x : Column). kind_of_fault (reference_fault ts (read_table a.p a.rec.now) (eqb a.i (get_or a.rec.now 25 0)) x)) x.ensures.is)
 
 pub column_fault_spec : {M : Type 1} → statement M

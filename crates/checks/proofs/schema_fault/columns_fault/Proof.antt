@@ -2,7 +2,6 @@
 use mathlib.Core.Path.{◌≡◌, sym, ◌∙◌}
 use Prim.Native.Nat.{◌-◌, ◌≤◌}
 use native.Mathlib.Omega.{arith}
-use borrow.Author.Tests.{not-true, not-false}
 use borrow.Author.Rules.{rules}
 use Rattle.rules.specs.Layout.{read_table, parse}
 use Rattle.rules.specs.Schema.{columns_fault}
@@ -52,7 +51,7 @@ returns c =
     let f = c.column_fault-k in
     column-refused a.p a.rec.now s.requires.1 ts l.i
     (omega (arith, c.loop-i-test.true, count-byte a.p a.rec.now)) f.result f.ensures
-    (sym c.is_accepted.ensures ∙ not-true _ c.if-not-is_accepted.true) l.invariant.1
+    (sym c.is_accepted.ensures ∙ c.if-not-is_accepted.true) l.invariant.1
 
 add-i : tie.Need-overflow_add-i invariant-loop decreases-loop
 add-i c = omega (arith, c.shared_slice_known-3-1.given 26)
@@ -67,7 +66,7 @@ loop-again c =
     let ts = (parse a.p a.places a.s.now).tables in
     let l = c.loop-i in
     let f = c.column_fault-k in
-    (omega arith, column-passed a.p a.rec.now s.requires.1 ts l.i (omega (arith, c.loop-i-test.true, count-byte a.p a.rec.now)) f.result f.ensures (sym c.is_accepted.ensures ∙ not-false _ c.if-not-is_accepted.false) l.invariant.1)
+    (omega arith, column-passed a.p a.rec.now s.requires.1 ts l.i (omega (arith, c.loop-i-test.true, count-byte a.p a.rec.now)) f.result f.ensures (sym c.is_accepted.ensures ∙ c.if-not-is_accepted.false) l.invariant.1)
 
 returns-2 : tie.Need-returns invariant-loop decreases-loop
 returns-2 c =

@@ -13,10 +13,10 @@ use Rattle.checks.proofs.schema_fault.reference_fault.Statement.{statement}
 use Rattle.checks.proofs.schema_fault.reference_fault.Tie as tie
 
 bare-is : (c : tie.Joined-not-c) → let s = c.before.before.before.before in c.if-not-c.bare ≡ (not s.args.c.index && not s.args.keyed)
-bare-is c = ⊎_elim (λ w. and-asked _ _ _ w.0.taken w.1) (λ w. and-left-out _ _ _ w.0.left w.1) c.if-not-c.branch-raw
+bare-is c = ⊎_elim (λ w. and-asked _ _ _ w.if-not-c.true w.bare-is) (λ w. and-left-out _ _ _ w.if-not-c.false w.bare-is) c.if-not-c.branch-raw
 
 free : (c : tie.Joined-else-c) → let s = c.before.before.before.before.before in (s.args.c.unique && c.if-not-c.bare) ≡ false
-free c = ⊎_elim (λ w. rw w.1.left (and-false c.args.c.unique)) (λ w. rw w.left) c.else-c.branch-raw
+free c = ⊎_elim (λ w. rw w.if-bare.false (and-false c.args.c.unique)) (λ w. rw w.if-c.false) c.else-c.branch-raw
 
 returns : tie.Need-returns-then-bare
 returns c =
@@ -63,8 +63,8 @@ returns-4 c =
     let k = c in
     target-other ts
     (read_table a.p a.rec.now) a.keyed (column_of a.c) b.bare
-    (bare-is c.before.before.before.before.before.before.before.before)
-    (free c.before.before.before.before.before.before.before) (text_bytes a.c.reference)
+    (bare-is c.before.before.before.before.before.before.before.before.before)
+    (free c.before.before.before.before.before.before.before.before) (text_bytes a.c.reference)
     (flag-set a.c.references (text_bytes a.c.reference) i.false) c.if-bare-2.false
     k.in-At.k (ap found_at (sym k.in-At.is) ∙ g.ensures) c.if-k-c.true
 
@@ -74,8 +74,8 @@ returns-5 c =
     let ts = (parse a.p a.places a.s.now).tables in
     let b = c.if-not-c in
     target-unknown ts
-    (read_table a.p a.rec.now) a.keyed (column_of a.c) b.bare (bare-is c.before.before.before.before.before.before)
-    (free c.before.before.before.before.before) (text_bytes a.c.reference)
+    (read_table a.p a.rec.now) a.keyed (column_of a.c) b.bare (bare-is c.before.before.before.before.before.before.before)
+    (free c.before.before.before.before.before.before) (text_bytes a.c.reference)
     (flag-set a.c.references (text_bytes a.c.reference) c.if-not-c-2.false) c.if-bare-2.false
     (ap found_at (sym c.in-Nothing.is) ∙ c.target_kind.ensures)
 
@@ -89,8 +89,8 @@ returns-6 c =
     let k = c in
     target-fit ts
     (read_table a.p a.rec.now) a.keyed (column_of a.c) b.bare
-    (bare-is c.before.before.before.before.before.before.before.before)
-    (free c.before.before.before.before.before.before.before) (text_bytes a.c.reference)
+    (bare-is c.before.before.before.before.before.before.before.before.before)
+    (free c.before.before.before.before.before.before.before.before) (text_bytes a.c.reference)
     (flag-set a.c.references (text_bytes a.c.reference) i.false) c.if-bare-2.false
     k.in-At.k (ap found_at (sym k.in-At.is) ∙ g.ensures) c.if-k-c.false
 

@@ -17,23 +17,14 @@ use Rattle.forms.proofs.print.print_value.Tie as tie
 enum_told : tie.Need-enum_told-1
 enum_told c = search rules
 
-slice-aggregate-put-bytes : tie.Need-slice-aggregate-put-bytes
-slice-aggregate-put-bytes c = search rules
-
 put-bytes-requires : tie.Need-put_bytes-requires
 put-bytes-requires c κs = search rules
 
 enum-known-v : tie.Need-enum_known-v
 enum-known-v c = search rules
 
-slice-aggregate-put-bytes-2 : tie.Need-slice-aggregate-put-bytes-2
-slice-aggregate-put-bytes-2 c = search rules
-
 put-bytes-requires-2 : tie.Need-put_bytes-requires-then-b
 put-bytes-requires-2 c κs = search rules
-
-slice-aggregate-put-bytes-3 : tie.Need-slice-aggregate-put-bytes-3
-slice-aggregate-put-bytes-3 c = search rules
 
 put-bytes-requires-3 : tie.Need-put_bytes-requires-else-b
 put-bytes-requires-3 c κs = search rules
@@ -130,12 +121,9 @@ print_value_spec =
     tie.close
     (tie.spec
     enum_told
-    slice-aggregate-put-bytes
     put-bytes-requires
     enum-known-v
-    slice-aggregate-put-bytes-2
     put-bytes-requires-2
-    slice-aggregate-put-bytes-3
     put-bytes-requires-3
     enum-known-v-2
     put-integer-requires

@@ -30,7 +30,7 @@ returns c =
     let p = c.put_digits in
     let l = decimal-long a.m in
     let k = decimal-short a.m in
-    (front-decimal a.out.now p.new.0 a.m _ d.digit_count-n.ensures p.ensures (omega arith), omega arith)
+    (front-decimal a.out.now p.new.out a.m _ d.digit_count-n.ensures p.ensures (omega arith), omega arith)
 
 pub put_decimal_spec : {M : Type 1} → statement M
 put_decimal_spec =

@@ -43,7 +43,7 @@ same_length : tie.Need-shape_of-out-then-z-lt0
 same_length c =
     let o = c.args.out.now in
     let p = c.put_decimal-n in
-    same_len_mid 1 (length (set o 0 45) - 1) (set o 0 45) p.new.0 p.auto.0 ∙ length-set o 0 45
+    same_len_mid 1 (length (set o 0 45) - 1) (set o 0 45) p.new.out p.auto.out ∙ length-set o 0 45
 
 returns : tie.Need-returns-then-z-lt0
 returns c =

@@ -38,14 +38,14 @@ same_length : tie.Need-shape_of-out
 same_length c =
     let a = c.args in
     let p = c.put_hex in
-    same_len_mid 2 (2 + 2 * length a.s.now - 2) (set (set a.out.now 0 a.letter) 1 58) p.new.0 p.auto.0 ∙ simp length-set
+    same_len_mid 2 (2 + 2 * length a.s.now - 2) (set (set a.out.now 0 a.letter) 1 58) p.new.out p.auto.out ∙ simp length-set
 
 returns : tie.Need-returns
 returns c =
     let d = c.before.before.before.before.before.before in
     let a = d.args in
     let p = c.put_hex in
-    front-tagged a.letter 58 (2 * length a.s.now) a.out.now p.new.0 (hex a.s.now) d.requires (hex-long a.s.now) p.ensures
+    front-tagged a.letter 58 (2 * length a.s.now) a.out.now p.new.out (hex a.s.now) d.requires (hex-long a.s.now) p.ensures
 
 pub put_tagged_spec : {M : Type 1} → statement M
 put_tagged_spec =

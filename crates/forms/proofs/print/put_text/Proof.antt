@@ -32,11 +32,7 @@ same_length : tie.Need-shape_of-out
 same_length c = search rules
 
 returns : tie.Need-returns
-returns c =
-    let t = c.before.before in
-    let w = t.before.before.before.before.before.before in
-    let a = w.before in
-    shown-text a.args.t w.write-name.new.0 a.requires.1 w.write-name.ensures t.put_tagged.ensures
+returns c = shown-text c.args.t c.write_name.new.out c.requires.1 c.write_name.ensures c.put_tagged.ensures
 
 pub put_text_spec : {M : Type 1} → statement M
 put_text_spec =

@@ -43,7 +43,7 @@ returns-4 c = record { is = c.integer_at.ensures.0 ∙ value-kind _ _ 2 (search 
 
 returns-5 : tie.Need-returns-in-3
 unfolding content_at
-returns-5 c = record { is = c.Float-at.ensures.0 ∙ value-kind _ _ 3 (search rules) c.in-3.is; proper = c.Float-at.ensures.1 }
+returns-5 c = record { is = c.float_at.ensures.0 ∙ value-kind _ _ 3 (search rules) c.in-3.is; proper = c.float_at.ensures.1 }
 
 returns-6 : tie.Need-returns-in-4
 unfolding content_at

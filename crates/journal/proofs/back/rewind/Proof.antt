@@ -15,13 +15,13 @@ abbrev decreases-loop : tie.decreases-loop-i
 decreases-loop s₀ p places j₀ from count i₀ s j i = count - i
 
 used-requires : tie.Need-used-count-requires invariant-loop decreases-loop
-used-requires c κs = batch-header c.before.requires.half.batch
+used-requires c κs = batch-header c.requires.half.batch
 
 loop-holds : tie.Need-loop-i-init invariant-loop decreases-loop
-loop-holds c = let a = c.before.args in (omega (arith, c.used-count.ensures, used-is a.p (parse a.p a.places a.s.now).tables a.j.now, half-long c.before.requires.half, c.before.requires.half.inside), forth-start)
+loop-holds c = (omega (arith, c.used-count.ensures, used-is c.args.p (parse c.args.p c.args.places c.args.s.now).tables c.args.j.now, half-long c.requires.half, c.requires.half.inside), forth-start)
 
 turn-requires : tie.Need-turn-requires invariant-loop decreases-loop
-turn-requires c κs = let a = c.before.args in forth-ready c.before.requires c.loop-i.invariant.1 (omega (arith, c.used-count.ensures, used-is a.p (parse a.p a.places a.s.now).tables a.j.now, c.loop-i-test.true))
+turn-requires c κs = forth-ready c.requires c.loop-i.invariant.1 (omega (arith, c.used-count.ensures, used-is c.args.p (parse c.args.p c.args.places c.args.s.now).tables c.args.j.now, c.loop-i-test.true))
 
 add-i : tie.Need-overflow_add-i invariant-loop decreases-loop
 add-i c = search rules
@@ -30,7 +30,7 @@ loop-less : tie.Need-loop-i-smaller invariant-loop decreases-loop
 loop-less c = omega (arith, c.loop-i-test.true)
 
 loop-again : tie.Need-loop-i-preserved invariant-loop decreases-loop
-loop-again c = let a = c.before.args in (omega (arith, c.loop-i-test.true), forth-turn c.loop-i.invariant.1 (omega (arith, c.used-count.ensures, used-is a.p (parse a.p a.places a.s.now).tables a.j.now, c.loop-i-test.true)) c.turn.ensures (search rules) (search rules))
+loop-again c = (omega (arith, c.loop-i-test.true), forth-turn c.loop-i.invariant.1 (omega (arith, c.used-count.ensures, used-is c.args.p (parse c.args.p c.args.places c.args.s.now).tables c.args.j.now, c.loop-i-test.true)) c.turn.ensures (search rules) (search rules))
 
 same_length : tie.Need-shape_of-s invariant-loop decreases-loop
 same_length c = c.loop-i.invariant.1.long
@@ -39,7 +39,7 @@ same-length-2 : tie.Need-shape_of-j invariant-loop decreases-loop
 same-length-2 c = c.loop-i.invariant.1.wide
 
 returns : tie.Need-returns invariant-loop decreases-loop
-returns c = let a = c.before.args in forth-end c.loop-i.invariant.1 (omega (arith, c.used-count.ensures, used-is a.p (parse a.p a.places a.s.now).tables a.j.now, c.loop-i.invariant.0, c.loop-i-test.false))
+returns c = forth-end c.loop-i.invariant.1 (omega (arith, c.used-count.ensures, used-is c.args.p (parse c.args.p c.args.places c.args.s.now).tables c.args.j.now, c.loop-i.invariant.0, c.loop-i-test.false))
 
 pub rewind_spec : {M : Type 1} → statement M
 rewind_spec =

@@ -1,5 +1,4 @@
 -- `journal::back::unwind` meets its contract. Assumes nothing.
-use borrow.Author.Tests.{not-true, not-false}
 use mathlib.Core.Path.{sym, ◌∙◌}
 use native.Mathlib.Omega.{arith}
 use Rattle.rules.specs.Layout.{parse}
@@ -16,37 +15,37 @@ abbrev decreases-loop : tie.decreases-loop-i
 decreases-loop s₀ p places j₀ i₀ s j i = i
 
 used-requires : tie.Need-used-i-requires invariant-loop decreases-loop
-used-requires c κs = batch-header c.before.requires
+used-requires c κs = batch-header c.requires
 
 loop-holds : tie.Need-loop-i-init invariant-loop decreases-loop
-loop-holds c = let a = c.before.args in half-start c.before.requires (c.used-i.ensures ∙ used-is a.p (parse a.p a.places a.s.now).tables a.j.now)
+loop-holds c = half-start c.requires (c.used-i.ensures ∙ used-is c.args.p (parse c.args.p c.args.places c.args.s.now).tables c.args.j.now)
 
 sub-can-turn : tie.Need-overflow_sub-i invariant-loop decreases-loop
-sub-can-turn c = c.loop-test.true
+sub-can-turn c = c.loop-i-test.true
 
 can-turn-requires : tie.Need-can_turn-requires invariant-loop decreases-loop
-can-turn-requires c κs = back-place c.loop.invariant c.loop-test.true
+can-turn-requires c κs = back-place c.loop-i.invariant c.loop-i-test.true
 
 same_length : tie.Need-shape_of-s-then-not-can_turn invariant-loop decreases-loop
-same_length c = (half-lengths c.loop.invariant).0
+same_length c = (half-lengths c.loop-i.invariant).0
 
 same-length-2 : tie.Need-shape_of-j-then-not-can_turn invariant-loop decreases-loop
-same-length-2 c = (half-lengths c.loop.invariant).1
+same-length-2 c = (half-lengths c.loop-i.invariant).1
 
 returns : tie.Need-returns-then-not-can_turn invariant-loop decreases-loop
-returns c = back-stuck c.loop.invariant c.loop-test.true (sym c.can_turn.ensures ∙ not-true _ c.if-not-can_turn.true)
+returns c = back-stuck c.loop-i.invariant c.loop-i-test.true (sym c.can_turn.ensures ∙ c.if-not-can_turn.true)
 
 sub-i : tie.Need-overflow_sub-i-in-loop-i invariant-loop decreases-loop
-sub-i c = c.loop-test.true
+sub-i c = c.loop-i-test.true
 
 turn-requires : tie.Need-turn-requires invariant-loop decreases-loop
-turn-requires c κs = back-ready c.loop.invariant c.loop-test.true (sym c.can_turn.ensures ∙ not-false _ c.if-not-can_turn.false)
+turn-requires c κs = back-ready c.loop-i.invariant c.loop-i-test.true (sym c.can_turn.ensures ∙ c.if-not-can_turn.false)
 
 loop-less : tie.Need-loop-i-smaller invariant-loop decreases-loop
-loop-less c = omega (arith, c.loop-test.true)
+loop-less c = omega (arith, c.loop-i-test.true)
 
 loop-again : tie.Need-loop-i-preserved invariant-loop decreases-loop
-loop-again c = back-turn c.loop.invariant c.loop-test.true (sym c.can_turn.ensures ∙ not-false _ c.if-not-can_turn.false) c.turn.ensures
+loop-again c = back-turn c.loop-i.invariant c.loop-i-test.true (sym c.can_turn.ensures ∙ c.if-not-can_turn.false) c.turn.ensures
 
 same-length-3 : tie.Need-shape_of-s invariant-loop decreases-loop
 same-length-3 c = (half-lengths c.loop-i.invariant).0

@@ -15,14 +15,14 @@ places-of-requires : tie.Need-places_of-places-requires
 places-of-requires c κs = search rules
 
 open-counted-requires : tie.Need-open_counted-requires
-open-counted-requires c κs = let b = c.before.before in rw (c.places_of-places.ensures, c.used.ensures, c.event-width.ensures) b.requires.grows
+open-counted-requires c κs = rw (c.places_of-places.ensures, c.used-i.ensures, c.event_width-width.ensures) c.requires.grows
 
 same_length : tie.Need-shape_of-j
 same_length c = search rules
 
 returns : tie.Need-returns
 unfolding with_zeros
-returns c = let b = c.before.before in record { place = c.used.ensures; bytes = c.open_counted.ensures ∙ rw (c.used.ensures, c.places_of-places.ensures, c.event-width.ensures) }
+returns c = record { place = c.used-i.ensures; bytes = c.open_counted.ensures ∙ rw (c.used-i.ensures, c.places_of-places.ensures, c.event_width-width.ensures) }
 
 pub next_place_spec : {M : Type 1} → statement M
 next_place_spec =

@@ -1,6 +1,5 @@
 -- `journal::page::note_row` meets its contract. Assumes nothing.
 use Rattle.journal.proofs.Noting.{book-long, spacious-of, place_of, note-none, note-one}
-use borrow.Author.Tests.{not-true, not-false}
 use mathlib.Core.Path.{sym, ◌∙◌}
 use native.Mathlib.Omega.{arith}
 use borrow.Author.Rules.{rules}
@@ -8,25 +7,25 @@ use Rattle.journal.proofs.page.note_row.Statement.{statement}
 use Rattle.journal.proofs.page.note_row.Tie as tie
 
 is-open-requires : tie.Need-is_open-requires
-is-open-requires c κs = let b = c.before in omega (arith, book-long b.requires.0.holds)
+is-open-requires c κs = omega (arith, book-long c.requires.0.holds)
 
 same_length : tie.Need-shape_of-j-then-not-is_open
 same_length c = search rules
 
 returns : tie.Need-returns-then-not-is_open
-returns c = let b = c.before in note-none b.args.p _ (sym c.is_open.ensures ∙ not-true _ c.if-not-is_open.true)
+returns c = note-none c.args.p _ (sym c.is_open.ensures ∙ c.if-not-is_open.true)
 
 next-place-requires : tie.Need-next_place-i-requires
-next-place-requires c κs = let b = c.before in spacious-of b.requires.0 (sym c.is_open.ensures ∙ not-false _ c.if-not-is_open.false)
+next-place-requires c κs = spacious-of c.requires.0 (sym c.is_open.ensures ∙ c.if-not-is_open.false)
 
 put-row-requires : tie.Need-put_row-requires
-put-row-requires c κs = let b = c.before in (b.requires.0.holds.paging.coded.known, b.requires.1, place_of b.requires.0 (sym c.is_open.ensures ∙ not-false _ c.if-not-is_open.false) c.next_place-i.ensures)
+put-row-requires c κs = (c.requires.0.holds.paging.coded.known, c.requires.1, place_of c.requires.0 (sym c.is_open.ensures ∙ c.if-not-is_open.false) c.next_place-i.ensures)
 
 same-length-2 : tie.Need-shape_of-j
 same-length-2 c = search rules
 
 returns-2 : tie.Need-returns
-returns-2 c = let b = c.before in note-one b.requires.0 (sym c.is_open.ensures ∙ not-false _ c.if-not-is_open.false) c.next_place-i.ensures _ c.put_row.ensures
+returns-2 c = note-one c.requires.0 (sym c.is_open.ensures ∙ c.if-not-is_open.false) c.next_place-i.ensures _ c.put_row.ensures
 
 pub note_row_spec : {M : Type 1} → statement M
 note_row_spec =

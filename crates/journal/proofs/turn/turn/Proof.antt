@@ -6,13 +6,13 @@ use Rattle.journal.proofs.turn.turn.Statement.{statement}
 use Rattle.journal.proofs.turn.turn.Tie as tie
 
 is-row-at-requires : tie.Need-is_row_at-requires
-is-row-at-requires c κs = let h = c.before.requires.place in (turn-known h, turn-place h)
+is-row-at-requires c κs = let h = c.requires.place in (turn-known h, turn-place h)
 
 turn-row-requires : tie.Need-turn_row-requires
-turn-row-requires c κs = (c.before.requires, (sym c.is_row_at.ensures ∙ c.if-is_row_at.true))
+turn-row-requires c κs = (c.requires, (sym c.is_row_at.ensures ∙ c.if-is_row_at.true))
 
 turn-absent-requires : tie.Need-turn_absent-requires
-turn-absent-requires c κs = (c.before.requires, (sym c.is_row_at.ensures ∙ c.if-is_row_at.false))
+turn-absent-requires c κs = (c.requires, (sym c.is_row_at.ensures ∙ c.if-is_row_at.false))
 
 same_length : tie.Need-shape_of-s-then-is_row_at
 same_length c = search rules

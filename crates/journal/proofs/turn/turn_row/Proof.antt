@@ -17,13 +17,13 @@ use Rattle.journal.proofs.turn.turn_row.Statement.{statement}
 use Rattle.journal.proofs.turn.turn_row.Tie as tie
 
 content-at-requires : tie.Need-content_at-requires
-content-at-requires c κs = let b = c.before in let h = b.requires.0.place in (turn-known h, turn-place h)
+content-at-requires c κs = let h = c.requires.0.place in (turn-known h, turn-place h)
 
 read-name-requires : tie.Need-read_name-name-requires
-read-name-requires c κs = let b = c.before in let h = b.requires.0.place in omega (arith, ap length c.content_at.ensures, content-long b.args.p b.args.j.now b.args.i (turn-place h), name-within b.args.p Rows)
+read-name-requires c κs = let h = c.requires.0.place in omega (arith, ap length c.content_at.ensures, content-long c.args.p c.args.j.now c.args.i (turn-place h), name-within c.args.p Rows)
 
 get-table-requires : tie.Need-get_table-requires
-get-table-requires c κs = let b = c.before.before in let h = b.requires.0.place in (held-catalog b.args.p b.args.places b.args.s.now h.batch.store, c.read_name.ensures.1)
+get-table-requires c κs = let h = c.requires.0.place in (held-catalog c.args.p c.args.places c.args.s.now h.batch.store, c.read_name-name.ensures.1)
 
 enum-known-t : tie.Need-enum_known-t
 enum-known-t c = search rules
@@ -38,34 +38,34 @@ same-length-2 : tie.Need-shape_of-j-in_default
 same-length-2 c = search rules
 
 returns : tie.Need-returns-in_default
-returns c = let b = c.before.before in let h = b.requires.0.place in let en = c.read_name.ensures.0 ∙ ap read_name c.content-at.ensures in table-never h en (answer-is c.in_default.is c.get_table.ensures)
+returns c = let h = c.requires.0.place in let en = c.read_name-name.ensures.0 ∙ ap read_name c.content_at.ensures in table-never h en (answer-is c.in_default.is c.get_table.ensures)
 
 table-record-requires : tie.Need-table_record-requires
-table-record-requires c κs = let b = c.before.before.before in let h = b.requires.0.place in let en = c.read_name.ensures.0 ∙ ap read_name c.content-at.ensures in let et = answer-is c.t.given.1 c.get-table.ensures in (held-inside b.args.p b.args.places b.args.s.now h.batch.store, start-table b.args.p b.args.places b.args.s.now h.batch.store c.t.given.0.0 (table-known h en et))
+table-record-requires c κs = let h = c.requires.0.place in let en = c.read_name-name.ensures.0 ∙ ap read_name c.content_at.ensures in let et = answer-is c.in-At.is c.get_table.ensures in (held-inside c.args.p c.args.places c.args.s.now h.batch.store, start-table c.args.p c.args.places c.args.s.now h.batch.store c.in-At.t (table-known h en et))
 
 key-column-requires : tie.Need-key_column-column-requires
-key-column-requires c κs = let b = c.before.before.before in let h = b.requires.0.place in let en = c.read_name.ensures.0 ∙ ap read_name c.content-at.ensures in let et = answer-is c.t.given.1 c.get-table.ensures in omega (arith, start-least b.args.p b.args.places b.args.s.now h.batch.store c.t.given.0.0 (table-known h en et) c.table_record.result.now c.table_record.ensures)
+key-column-requires c κs = let h = c.requires.0.place in let en = c.read_name-name.ensures.0 ∙ ap read_name c.content_at.ensures in let et = answer-is c.in-At.is c.get_table.ensures in omega (arith, start-least c.args.p c.args.places c.args.s.now h.batch.store c.in-At.t (table-known h en et) c.table_record.result.now c.table_record.ensures)
 
 table-record-requires-2 : tie.Need-table_record-requires-2
-table-record-requires-2 c κs = let b = c.before.before.before.before in let h = b.requires.0.place in let en = c.read_name.ensures.0 ∙ ap read_name c.content-at.ensures in let et = answer-is c.t.given.1 c.get-table.ensures in (held-inside b.args.p b.args.places b.args.s.now h.batch.store, start-table b.args.p b.args.places b.args.s.now h.batch.store c.t.given.0.0 (table-known h en et))
+table-record-requires-2 c κs = let h = c.requires.0.place in let en = c.read_name-name.ensures.0 ∙ ap read_name c.content_at.ensures in let et = answer-is c.in-At.is c.get_table.ensures in (held-inside c.args.p c.args.places c.args.s.now h.batch.store, start-table c.args.p c.args.places c.args.s.now h.batch.store c.in-At.t (table-known h en et))
 
 column-count-requires : tie.Need-column_count-count-requires
-column-count-requires c κs = let b = c.before.before.before.before in let h = b.requires.0.place in let en = c.read_name.ensures.0 ∙ ap read_name c.content-at.ensures in let et = answer-is c.t.given.1 c.get-table.ensures in start-least b.args.p b.args.places b.args.s.now h.batch.store c.t.given.0.0 (table-known h en et) c.table_record-2.result.now c.table_record-2.ensures
+column-count-requires c κs = let h = c.requires.0.place in let en = c.read_name-name.ensures.0 ∙ ap read_name c.content_at.ensures in let et = answer-is c.in-At.is c.get_table.ensures in start-least c.args.p c.args.places c.args.s.now h.batch.store c.in-At.t (table-known h en et) c.table_record-2.result.now c.table_record-2.ensures
 
 content-at-requires-2 : tie.Need-content_at-requires-2
-content-at-requires-2 c κs = let b = c.before.before.before.before.before in let h = b.requires.0.place in (turn-known h, turn-place h)
+content-at-requires-2 c κs = let h = c.requires.0.place in (turn-known h, turn-place h)
 
 row-from-requires : tie.Need-row_from-row-requires
-row-from-requires c κs = let b = c.before.before.before.before.before in let h = b.requires.0.place in let en = c.read_name.ensures.0 ∙ ap read_name c.before.content-at.ensures in let et = answer-is c.t.given.1 c.get-table.ensures in let cc = c.column-count.ensures ∙ start-count b.args.p b.args.places b.args.s.now h.batch.store c.t.given.0.0 (table-known h en et) c.table-record2.result.now c.table-record2.ensures in (h.batch.paging, ap length c.content_at-2.ensures ∙ content-long b.args.p b.args.j.now b.args.i (turn-place h), omega (arith, cc, columns-few h en et))
+row-from-requires c κs = let h = c.requires.0.place in let en = c.read_name-name.ensures.0 ∙ ap read_name c.content_at.ensures in let et = answer-is c.in-At.is c.get_table.ensures in let cc = c.column_count-count.ensures ∙ start-count c.args.p c.args.places c.args.s.now h.batch.store c.in-At.t (table-known h en et) c.table_record-2.result.now c.table_record-2.ensures in (h.batch.paging, ap length c.content_at-2.ensures ∙ content-long c.args.p c.args.j.now c.args.i (turn-place h), omega (arith, cc, columns-few h en et))
 
 mul-c : tie.Need-offset_bounds-cells-column
-mul-c c = let b = c.before.before.before.before.before in let h = b.requires.0.place in let en = c.read_name.ensures.0 ∙ ap read_name c.before.content-at.ensures in let et = answer-is c.t.given.1 c.get-table.ensures in let er = c.table-record.ensures in let ec = c.key-column.ensures in omega (arith, key-less h en et er ec, columns-few h en et, h.batch.paging.most)
+mul-c c = let h = c.requires.0.place in let en = c.read_name-name.ensures.0 ∙ ap read_name c.content_at.ensures in let et = answer-is c.in-At.is c.get_table.ensures in let er = c.table_record.ensures in let ec = c.key_column-column.ensures in omega (arith, key-less h en et er ec, columns-few h en et, h.batch.paging.most)
 
 array-copy-out-c : tie.Need-bounds-cells-column
-array-copy-out-c c = let b = c.before.before.before.before.before in let h = b.requires.0.place in let en = c.read_name.ensures.0 ∙ ap read_name c.before.content-at.ensures in let et = answer-is c.t.given.1 c.get-table.ensures in let er = c.table-record.ensures in let ec = c.key-column.ensures in omega (arith, key-less h en et er ec, columns-few h en et, h.batch.paging.most)
+array-copy-out-c c = let h = c.requires.0.place in let en = c.read_name-name.ensures.0 ∙ ap read_name c.content_at.ensures in let et = answer-is c.in-At.is c.get_table.ensures in let er = c.table_record.ensures in let ec = c.key_column-column.ensures in omega (arith, key-less h en et er ec, columns-few h en et, h.batch.paging.most)
 
 find-row-requires : tie.Need-find_row-requires
-find-row-requires c κs = let b = c.before.before.before.before.before.before in let h = b.requires.0.place in let en = c.before.read_name.ensures.0 ∙ ap read_name c.before.before.content-at.ensures in let et = answer-is c.t.given.1 c.get-table.ensures in let er = c.table-record.ensures in let ec = c.key-column.ensures in let cc = c.column-count.ensures ∙ start-count b.args.p b.args.places b.args.s.now h.batch.store c.t.given.0.0 (table-known h en et) c.table-record2.result.now c.table-record2.ensures in let r = c.row_from.ensures in let f = from_is c.content-at2.ensures cc r in let l = key-less h en et er ec in let m : c.key-column.result < c.row_from.result.count = omega (arith, l, cc, r.counted) in (h.batch.store, key-found h en et er ec, c.before.read_name.ensures.1, cell-proper c.row_from.result r.proper c.key-column.result m)
+find-row-requires c κs = let h = c.requires.0.place in let en = c.read_name-name.ensures.0 ∙ ap read_name c.content_at.ensures in let et = answer-is c.in-At.is c.get_table.ensures in let er = c.table_record.ensures in let ec = c.key_column-column.ensures in let cc = c.column_count-count.ensures ∙ start-count c.args.p c.args.places c.args.s.now h.batch.store c.in-At.t (table-known h en et) c.table_record-2.result.now c.table_record-2.ensures in let r = c.row_from-row.ensures in let f = from_is c.content_at-2.ensures cc r in let l = key-less h en et er ec in let m : c.key_column-column.result < c.row_from-row.result.count = omega (arith, l, cc, r.counted) in (h.batch.store, key-found h en et er ec, c.read_name-name.ensures.1, cell-proper c.row_from-row.result r.proper c.key_column-column.result m)
 
 enum-known-k : tie.Need-enum_known-k
 enum-known-k c = search rules
@@ -74,7 +74,7 @@ enum-told-2 : tie.Need-enum_told-in_default-find_row
 enum-told-2 c = search rules
 
 swap-in-requires : tie.Need-swap_in-requires
-swap-in-requires c κs = let b = c.before.before.before.before.before.before in let h = b.requires.0.place in let en = c.before.read_name.ensures.0 ∙ ap read_name c.before.before.content-at.ensures in let et = answer-is c.t.given.1 c.get-table.ensures in let er = c.table-record.ensures in let ec = c.key-column.ensures in let no = answer-is c.in_default-find_row.is c.find_row.ensures in let cc = c.column-count.ensures ∙ start-count b.args.p b.args.places b.args.s.now h.batch.store c.t.given.0.0 (table-known h en et) c.table-record2.result.now c.table-record2.ensures in let r = c.row_from.ensures in let f = from_is c.content-at2.ensures cc r in let l = key-less h en et er ec in let m : c.key-column.result < c.row_from.result.count = omega (arith, l, cc, r.counted) in let q = cell-held c.row_from.result r.proper c.key-column.result m ∙ ap (cell_at (cells_of c.row_from.result)) (key-at h en et er ec) in ((h.batch.store, r.proper, row-addable h en b.requires.1 et f.cells q no b.requires.0.room), (h.batch.paging, turn-place h, c.before.read_name.ensures.1, cell-proper c.row_from.result r.proper c.key-column.result m))
+swap-in-requires c κs = let h = c.requires.0.place in let en = c.read_name-name.ensures.0 ∙ ap read_name c.content_at.ensures in let et = answer-is c.in-At.is c.get_table.ensures in let er = c.table_record.ensures in let ec = c.key_column-column.ensures in let no = answer-is c.in_default-find_row.is c.find_row.ensures in let cc = c.column_count-count.ensures ∙ start-count c.args.p c.args.places c.args.s.now h.batch.store c.in-At.t (table-known h en et) c.table_record-2.result.now c.table_record-2.ensures in let r = c.row_from-row.ensures in let f = from_is c.content_at-2.ensures cc r in let l = key-less h en et er ec in let m : c.key_column-column.result < c.row_from-row.result.count = omega (arith, l, cc, r.counted) in let q = cell-held c.row_from-row.result r.proper c.key_column-column.result m ∙ ap (cell_at (cells_of c.row_from-row.result)) (key-at h en et er ec) in ((h.batch.store, r.proper, row-addable h en c.requires.1 et f.cells q no c.requires.0.room), (h.batch.paging, turn-place h, c.read_name-name.ensures.1, cell-proper c.row_from-row.result r.proper c.key_column-column.result m))
 
 same-length-3 : tie.Need-shape_of-s-in_default-find_row
 same-length-3 c = search rules
@@ -83,10 +83,10 @@ same-length-4 : tie.Need-shape_of-j-in_default-find_row
 same-length-4 c = search rules
 
 returns-2 : tie.Need-returns-in_default-find_row
-returns-2 c = let b = c.before.before.before.before.before.before in let h = b.requires.0.place in let en = c.before.read_name.ensures.0 ∙ ap read_name c.before.before.content-at.ensures in let et = answer-is c.t.given.1 c.get-table.ensures in let er = c.table-record.ensures in let ec = c.key-column.ensures in let no = answer-is c.in_default-find_row.is c.find_row.ensures in let cc = c.column-count.ensures ∙ start-count b.args.p b.args.places b.args.s.now h.batch.store c.t.given.0.0 (table-known h en et) c.table-record2.result.now c.table-record2.ensures in let r = c.row_from.ensures in let f = from_is c.content-at2.ensures cc r in let l = key-less h en et er ec in let m : c.key-column.result < c.row_from.result.count = omega (arith, l, cc, r.counted) in let q = cell-held c.row_from.result r.proper c.key-column.result m ∙ ap (cell_at (cells_of c.row_from.result)) (key-at h en et er ec) in row-came h en b.requires.1 et f.cells q no c.swap_in.ensures
+returns-2 c = let h = c.requires.0.place in let en = c.read_name-name.ensures.0 ∙ ap read_name c.content_at.ensures in let et = answer-is c.in-At.is c.get_table.ensures in let er = c.table_record.ensures in let ec = c.key_column-column.ensures in let no = answer-is c.in_default-find_row.is c.find_row.ensures in let cc = c.column_count-count.ensures ∙ start-count c.args.p c.args.places c.args.s.now h.batch.store c.in-At.t (table-known h en et) c.table_record-2.result.now c.table_record-2.ensures in let r = c.row_from-row.ensures in let f = from_is c.content_at-2.ensures cc r in let l = key-less h en et er ec in let m : c.key_column-column.result < c.row_from-row.result.count = omega (arith, l, cc, r.counted) in let q = cell-held c.row_from-row.result r.proper c.key_column-column.result m ∙ ap (cell_at (cells_of c.row_from-row.result)) (key-at h en et er ec) in row-came h en c.requires.1 et f.cells q no c.swap_in.ensures
 
 swap-requires : tie.Need-swap-requires
-swap-requires c κs = let b = c.before.before.before.before.before.before in let h = b.requires.0.place in let en = c.before.read_name.ensures.0 ∙ ap read_name c.before.before.content-at.ensures in let et = answer-is c.t.given.1 c.get-table.ensures in let er = c.table-record.ensures in let ec = c.key-column.ensures in let ek = answer-is c.in-At-find_row.is c.find_row.ensures in let cc = c.column-count.ensures ∙ start-count b.args.p b.args.places b.args.s.now h.batch.store c.t.given.0.0 (table-known h en et) c.table-record2.result.now c.table-record2.ensures in let r = c.row_from.ensures in let f = from_is c.content-at2.ensures cc r in let l = key-less h en et er ec in let m : c.key-column.result < c.row_from.result.count = omega (arith, l, cc, r.counted) in let q = cell-held c.row_from.result r.proper c.key-column.result m ∙ ap (cell_at (cells_of c.row_from.result)) (key-at h en et er ec) in ((h.batch.store, r.proper, row-replaceable h en b.requires.1 et f.cells q ek b.requires.0.room), turn-place h)
+swap-requires c κs = let h = c.requires.0.place in let en = c.read_name-name.ensures.0 ∙ ap read_name c.content_at.ensures in let et = answer-is c.in-At.is c.get_table.ensures in let er = c.table_record.ensures in let ec = c.key_column-column.ensures in let ek = answer-is c.in-At-find_row.is c.find_row.ensures in let cc = c.column_count-count.ensures ∙ start-count c.args.p c.args.places c.args.s.now h.batch.store c.in-At.t (table-known h en et) c.table_record-2.result.now c.table_record-2.ensures in let r = c.row_from-row.ensures in let f = from_is c.content_at-2.ensures cc r in let l = key-less h en et er ec in let m : c.key_column-column.result < c.row_from-row.result.count = omega (arith, l, cc, r.counted) in let q = cell-held c.row_from-row.result r.proper c.key_column-column.result m ∙ ap (cell_at (cells_of c.row_from-row.result)) (key-at h en et er ec) in ((h.batch.store, r.proper, row-replaceable h en c.requires.1 et f.cells q ek c.requires.0.room), turn-place h)
 
 same-length-5 : tie.Need-shape_of-s
 same-length-5 c = search rules
@@ -95,7 +95,7 @@ same-length-6 : tie.Need-shape_of-j
 same-length-6 c = search rules
 
 returns-3 : tie.Need-returns
-returns-3 c = let b = c.before.before.before.before.before.before in let h = b.requires.0.place in let en = c.before.read_name.ensures.0 ∙ ap read_name c.before.before.content-at.ensures in let et = answer-is c.t.given.1 c.get-table.ensures in let er = c.table-record.ensures in let ec = c.key-column.ensures in let ek = answer-is c.in-At-find_row.is c.find_row.ensures in let cc = c.column-count.ensures ∙ start-count b.args.p b.args.places b.args.s.now h.batch.store c.t.given.0.0 (table-known h en et) c.table-record2.result.now c.table-record2.ensures in let r = c.row_from.ensures in let f = from_is c.content-at2.ensures cc r in let l = key-less h en et er ec in let m : c.key-column.result < c.row_from.result.count = omega (arith, l, cc, r.counted) in let q = cell-held c.row_from.result r.proper c.key-column.result m ∙ ap (cell_at (cells_of c.row_from.result)) (key-at h en et er ec) in row-changed h en b.requires.1 et f.cells q ek c.swap.ensures
+returns-3 c = let h = c.requires.0.place in let en = c.read_name-name.ensures.0 ∙ ap read_name c.content_at.ensures in let et = answer-is c.in-At.is c.get_table.ensures in let er = c.table_record.ensures in let ec = c.key_column-column.ensures in let ek = answer-is c.in-At-find_row.is c.find_row.ensures in let cc = c.column_count-count.ensures ∙ start-count c.args.p c.args.places c.args.s.now h.batch.store c.in-At.t (table-known h en et) c.table_record-2.result.now c.table_record-2.ensures in let r = c.row_from-row.ensures in let f = from_is c.content_at-2.ensures cc r in let l = key-less h en et er ec in let m : c.key_column-column.result < c.row_from-row.result.count = omega (arith, l, cc, r.counted) in let q = cell-held c.row_from-row.result r.proper c.key_column-column.result m ∙ ap (cell_at (cells_of c.row_from-row.result)) (key-at h en et er ec) in row-changed h en c.requires.1 et f.cells q ek c.swap.ensures
 
 pub turn_row_spec : {M : Type 1} → statement M
 turn_row_spec =

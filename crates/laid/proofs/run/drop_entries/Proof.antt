@@ -11,7 +11,7 @@ use Rattle.laid.proofs.run.drop_entries.Statement.{statement}
 use Rattle.laid.proofs.run.drop_entries.Tie as tie
 
 entry-count-requires : tie.Need-entry_count-count-requires
-entry-count-requires c κs = laid-header _ _ _ _ c.before.requires.0.laid
+entry-count-requires c κs = laid-header _ _ _ _ c.requires.0.laid
 
 entry-width-requires : tie.Need-entry_width-width-requires
 entry-width-requires c κs = search rules
@@ -22,81 +22,81 @@ entries-at-requires c κs = search rules
 sub-named-before : tie.Need-slice_bounds-named_before-count
 sub-named-before c =
     let f = c in
-    let b = f.before in
+    let b = f in
     let w = f.entry_width-width in
     area-start _ _ _ _ _ b.requires.0 f.entries_at-from.result w.result _ f.entries_at-from.ensures w.ensures refl
 
 part-named-before-start : tie.Need-slice_bounds-named_before-start
 part-named-before-start c =
-    let f = c.before in
-    let b = f.before.before in
-    let w = f.entry-width in
-    area-start _ _ _ _ _ b.requires.0 f.entries_at.result w.result _ f.entries_at.ensures w.ensures refl
+    let f = c in
+    let b = f in
+    let w = f.entry_width-width in
+    area-start _ _ _ _ _ b.requires.0 f.entries_at-from.result w.result _ f.entries_at-from.ensures w.ensures refl
 
 part-named-before-end : tie.Need-slice_bounds-named_before-end
 part-named-before-end c = search rules
 
 named-before-requires : tie.Need-named_before-i-requires
 named-before-requires c κs =
-    let f = c.before.before in
-    let b = f.before.before in
-    let w = f.entry-width in
-    let k = f.entry-count in
-    ((omega (arith, w.ensures, name-within b.args.p Entries), b.requires.1), run-searched _ _ _ _ _ b.requires.0 f.entries_at.result w.result _ f.entries_at.ensures w.ensures refl k.result k.ensures)
+    let f = c in
+    let b = f in
+    let w = f.entry_width-width in
+    let k = f.entry_count-count in
+    ((omega (arith, w.ensures, name-within b.args.p Entries), b.requires.1), run-searched _ _ _ _ _ b.requires.0 f.entries_at-from.result w.result _ f.entries_at-from.ensures w.ensures refl k.result k.ensures)
 
 sub-run-from : tie.Need-slice_bounds-run_from-count
 sub-run-from c =
-    let f = c.before.before.before in
-    let b = f.before.before in
-    let w = f.entry-width in
-    area-start _ _ _ _ _ b.requires.0 f.entries_at.result w.result _ f.entries_at.ensures w.ensures refl
+    let f = c in
+    let b = f in
+    let w = f.entry_width-width in
+    area-start _ _ _ _ _ b.requires.0 f.entries_at-from.result w.result _ f.entries_at-from.ensures w.ensures refl
 
 part-run-from-start : tie.Need-slice_bounds-run_from-start
 part-run-from-start c =
-    let f = c.before.before.before.before in
-    let b = f.before.before.before in
-    let w = f.entry-width in
-    area-start _ _ _ _ _ b.requires.0 f.entries_at.result w.result _ f.entries_at.ensures w.ensures refl
+    let f = c in
+    let b = f in
+    let w = f.entry_width-width in
+    area-start _ _ _ _ _ b.requires.0 f.entries_at-from.result w.result _ f.entries_at-from.ensures w.ensures refl
 
 part-run-from-end : tie.Need-slice_bounds-run_from-end
 part-run-from-end c = search rules
 
 run-from-requires : tie.Need-run_from-n-requires
 run-from-requires c κs =
-    let f = c.before.before.before.before.before in
-    let b = f.before.before.before in
-    let w = f.entry-width in
-    let k = f.entry-count in
-    let n = c.named-before in
-    (omega (arith, w.ensures, name-within b.args.p Entries), run_inside _ _ _ _ _ b.requires.0 f.entries_at.result w.result _ f.entries_at.ensures w.ensures refl k.result k.ensures, run-place _ _ _ _ _ b.requires.0 f.entries_at.result w.result _ f.entries_at.ensures w.ensures refl k.result k.ensures n.result n.ensures, b.requires.1)
+    let f = c in
+    let b = f in
+    let w = f.entry_width-width in
+    let k = f.entry_count-count in
+    let n = c.named_before-i in
+    (omega (arith, w.ensures, name-within b.args.p Entries), run_inside _ _ _ _ _ b.requires.0 f.entries_at-from.result w.result _ f.entries_at-from.ensures w.ensures refl k.result k.ensures, run-place _ _ _ _ _ b.requires.0 f.entries_at-from.result w.result _ f.entries_at-from.ensures w.ensures refl k.result k.ensures n.result n.ensures, b.requires.1)
 
 mul-close-counted : tie.Need-overflow_mul-p
 mul-close-counted c =
-    let b = c.before.before.before in
+    let b = c in
     omega (arith, entries-most _ b.requires.0.coded.known _ b.requires.0.laid.fits.places)
 
 close-counted-requires : tie.Need-close_counted-requires
 close-counted-requires c κs =
-    let f = c.before.before.before.before.before.before.before.before in
-    let b = f.before.before.before in
-    let w = f.entry-width in
-    let k = f.entry-count in
-    let n = c.named-before in
+    let f = c in
+    let b = f in
+    let w = f.entry_width-width in
+    let k = f.entry_count-count in
+    let n = c.named_before-i in
     let l = c.run_from-n in
-    run-shrinks _ _ _ _ _ b.requires.0 f.entries_at.result w.result _ f.entries_at.ensures w.ensures refl k.result k.ensures n.result n.ensures l.result l.ensures
+    run-shrinks _ _ _ _ _ b.requires.0 f.entries_at-from.result w.result _ f.entries_at-from.ensures w.ensures refl k.result k.ensures n.result n.ensures l.result l.ensures
 
 same_length : tie.Need-shape_of-s
 same_length c = search rules
 
 returns : tie.Need-returns
 returns c =
-    let f = c.before.before.before.before.before.before.before.before.before.before.before in
-    let b = f.before.before.before in
-    let w = f.entry-width in
-    let k = f.entry-count in
-    let n = c.named-before in
+    let f = c in
+    let b = f in
+    let w = f.entry_width-width in
+    let k = f.entry_count-count in
+    let n = c.named_before-i in
     let l = c.run_from-n in
-    run-gone _ _ _ _ _ b.requires.0 f.entries_at.result w.result _ f.entries_at.ensures w.ensures refl k.result k.ensures n.result n.ensures l.result l.ensures _ c.close_counted.ensures
+    run-gone _ _ _ _ _ b.requires.0 f.entries_at-from.result w.result _ f.entries_at-from.ensures w.ensures refl k.result k.ensures n.result n.ensures l.result l.ensures _ c.close_counted.ensures
 
 pub drop_entries_spec : {M : Type 1} → statement M
 drop_entries_spec =

@@ -128,15 +128,15 @@ loop-again c =
     let e = v.given_value-g.ensures in
     ⊎_elim
     (λ w.
-    subst (λ (cs : List Cell). Filling (gives b) (cols b) cs (l.j + 1)) (sym w.2)
+    subst (λ (cs : List Cell). Filling (gives b) (cols b) cs (l.j + 1)) (sym w.cells-is)
     (filling-given (gives b) (cols b) l.cells l.j l.invariant (few t) (below t) (column_at b.args.p b.args.table.now l.j)
     (column-drop b.args.p b.args.table.now b.requires.0 l.j (below t))
-    r.cell (found_some r (gives b l.j) e.0 w.0.taken) e.1))
+    r.cell (found_some r (gives b l.j) e.0 w.if-g.true) e.1))
     (λ w.
-    let x = w.1.result in
-    subst (λ (cs : List Cell). Filling (gives b) (cols b) cs (l.j + 1)) (sym w.5)
-    (filling-default (gives b) (cols b) l.cells l.j l.invariant (few t) (below t) (column_of x) (column t x w.1.ensures)
-    x.default (given-none v w.0.left) (flag-set x.defaulted (held x.default) w.3.left) w.1.ensures.proper.default))
+    let x = w.read_column-c.result in
+    subst (λ (cs : List Cell). Filling (gives b) (cols b) cs (l.j + 1)) (sym w.cells-is)
+    (filling-default (gives b) (cols b) l.cells l.j l.invariant (few t) (below t) (column_of x) (column t x w.read_column-c.ensures)
+    x.default (given-none v w.if-g.false) (flag-set x.defaulted (held x.default) w.if-not-c.false) w.read_column-c.ensures.proper.default))
     c.if-g.branch-raw
 
 returns-2 : tie.Need-returns invariant-loop decreases-loop

@@ -42,7 +42,7 @@ alike j =
     let b = begun j in
     let n = length (values b) in
     counted-alike b.args.rec.now b.args.m b.requires.2 n
-    (λ t. ⊎_elim {C = b.args.m.count ≡ n} (λ w. w.2.left ∙ sym b.requires.3) (λ w. absurd (true≢false (sym t ∙ w.left))) j.if-m.branch-raw)
+    (λ t. ⊎_elim {C = b.args.m.count ≡ n} (λ w. w.if-m-count.false ∙ sym b.requires.3) (λ w. absurd (true≢false (sym t ∙ w.if-m.false))) j.if-m.branch-raw)
 
 returns : tie.Need-returns-then-columns-count
 returns c =

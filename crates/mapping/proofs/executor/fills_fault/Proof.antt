@@ -4,7 +4,6 @@ use mathlib.Core.Path.{◌≡◌, refl}
 use mathlib.Core.Bool.{true}
 use native.Mathlib.Omega.{arith}
 use borrow.Author.Rules.{rules}
-use borrow.Author.Tests.{not-true, not-false}
 use Rattle.rules.specs.Layout.{read_table}
 use Rattle.rules.specs.Rows.{fills_fault}
 use Rattle.mapping.specs.Got.{is_got}
@@ -53,7 +52,7 @@ returns c =
     let o = f.before in
     let l = o.loop-left in
     row-refused _ _ _ l.left l.q l.i _ l.invariant.2 o.loop-left-test.true l.invariant.1 _ o.byte_of-count.ensures _ f.fill_fault-k.ensures _ a.is_accepted.ensures
-    (not-true _ c.if-not-is_accepted.true)
+    c.if-not-is_accepted.true
 
 values-end-requires : tie.Need-values_end-requires invariant-loop decreases-loop
 values-end-requires c κs = search rules
@@ -91,7 +90,7 @@ loop-again c =
     let o = f.before in
     let l = o.loop-left in
     let r = row-passed _ _ _ l.left l.q l.i _ l.invariant.2 o.loop-left-test.true l.invariant.1 _ o.byte_of-count.ensures _ f.fill_fault-k.ensures
-    _ a.is_accepted.ensures (not-false _ v.if-not-is_accepted.false) _ _ v.values_end.ensures c.in-Ends.is in
+    _ a.is_accepted.ensures v.if-not-is_accepted.false _ _ v.values_end.ensures c.in-Ends.is in
     (omega (arith, o.loop-left-test.true, l.invariant.0), r.0, r.1)
 
 returns-3 : tie.Need-returns invariant-loop decreases-loop

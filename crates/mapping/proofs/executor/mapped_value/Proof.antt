@@ -6,7 +6,6 @@ use mathlib.Core.List.{List}
 use native.Mathlib.Omega.{arith}
 use lib.ListN.{take, drop}
 use borrow.Author.Rules.{rules}
-use borrow.Author.Tests.{ltb-true, ltb-false}
 use Rattle.rules.specs.Rows.{mapped}
 use Rattle.checks.specs.Keys.{values_from}
 use Rattle.checks.proofs.Taking.{null-proper}
@@ -28,7 +27,7 @@ add-end c = omega arith
 loop-holds : tie.Need-loop-i-init invariant-loop decreases-loop
 loop-holds c =
     let b = c.args in
-    (omega arith, ap (λ (ms : List ℕ). mapped ms (values_from b.rec.now b.count b.at) b.j) (part-whole b.rec.now b.map_at b.map-count))
+    (omega arith, ap (λ (ms : List ℕ). mapped ms (values_from b.rec.now b.count b.at) b.j) (part-whole b.rec.now b.map_at b.map_count))
 
 value-at-requires : tie.Need-value_at-requires invariant-loop decreases-loop
 value-at-requires c κs = search rules
@@ -49,7 +48,7 @@ returns c =
     let w = v.before.before in
     let l = w.loop-i in
     let e = v.value_at.ensures in (
-      mapped-here _ l.i _ l.left _ _ _ l.invariant.1 _ e w.loop-i-test.true w.requires (ltb-true _ _ v.if-left-gt0.true) _ _ t.in-Got.is c.if-rec-i.true,
+      mapped-here _ l.i _ l.left _ _ _ l.invariant.1 _ e w.loop-i-test.true w.requires v.if-left-gt0.true _ _ t.in-Got.is c.if-rec-i.true,
       cell-proper _ l.left _ _ e _ _ t.in-Got.is,
     )
 
@@ -68,12 +67,12 @@ add-i c = omega arith
 sub-left : tie.Need-overflow_sub-left invariant-loop decreases-loop
 sub-left c =
     let v = c.before.before.before in
-    omega (arith, ltb-true 0 v.loop-i.left v.if-left-gt0.true)
+    omega (arith, v.if-left-gt0.true)
 
 loop-less : tie.Need-loop-i-smaller invariant-loop decreases-loop
 loop-less c =
     let v = c.before.before.before in
-    omega (arith, ltb-true 0 v.loop-i.left v.if-left-gt0.true)
+    omega (arith, v.if-left-gt0.true)
 
 loop-again : tie.Need-loop-i-preserved invariant-loop decreases-loop
 loop-again c =
@@ -82,14 +81,14 @@ loop-again c =
     let w = v.before.before in
     let l = w.loop-i in (
       omega arith,
-      mapped-past _ l.i _ l.left _ _ _ l.invariant.1 _ v.value_at.ensures w.loop-i-test.true w.requires (ltb-true _ _ v.if-left-gt0.true)
+      mapped-past _ l.i _ l.left _ _ _ l.invariant.1 _ v.value_at.ensures w.loop-i-test.true w.requires v.if-left-gt0.true
           _ _ t.in-Got.is c.if-rec-i.false,
     )
 
 returns-3 : tie.Need-returns-else-left-gt0 invariant-loop decreases-loop
 returns-3 c =
     let l = c.loop-i in
-    (mapped-none _ l.i _ l.left _ _ _ l.invariant.1 (ltb-false _ _ c.if-left-gt0.false), null-proper)
+    (mapped-none _ l.i _ l.left _ _ _ l.invariant.1 c.if-left-gt0.false, null-proper)
 
 returns-4 : tie.Need-returns-after-loop-i invariant-loop decreases-loop
 returns-4 c =

@@ -46,11 +46,11 @@ loop-again c =
     ⊎_elim
     (λ w.
     so-far-next s.args.rec.now s.args.at s.args.count l.cells l.i l.next l.invariant s.requires.0 v.loop-i-test.true v.value_at.result v.value_at.ensures
-    w.1.given.0.0 w.1.given.0.1.0 w.1.given.1 c.match-value_at.cells c.match-value_at.next w.3 w.4)
+    w.in-Got.cell w.in-Got.end w.in-Got.is c.match-value_at.cells c.match-value_at.next w.cells-is w.next-is)
     (λ w.
     absurd
     (so-far-never s.args.rec.now s.args.at s.args.count l.cells l.i l.next l.invariant s.requires.0 v.loop-i-test.true v.value_at.result v.value_at.ensures
-    s.requires.1 w.1.given.0.0 w.1.given.1))
+    s.requires.1 w.in_default.field-0 w.in_default.is))
     c.match-value_at.branch-raw
 
 returns : tie.Need-returns invariant-loop decreases-loop

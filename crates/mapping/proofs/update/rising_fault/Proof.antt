@@ -113,8 +113,8 @@ loop-again c =
     let ee = row-end rec l.left l.q g o.in-Got.next ea w.result e.in-Ends.e w.ensures e.in-Ends.is in (
       others-left rec l.left l.q g e.in-Ends.e ee,
       rising-again rec l.left l.q g v.value_at.result v.value_at.ensures o.in-Got.cell o.in-Got.next o.in-Got.is l.i (held l.last) _ l.invariant.1 e.in-Ends.e ee
-          (λ h. ⊎_elim {C = before (held l.last) (held o.in-Got.cell) ≡ true} (λ x. sym (less-is x.1.result _ x.1.ensures x.3.given.1))
-          (λ x. absurd (omega (arith, x.left))) c.if-i-gt0.branch-raw),
+          (λ h. ⊎_elim {C = before (held l.last) (held o.in-Got.cell) ≡ true} (λ x. sym (less-is x.compare.result _ x.compare.ensures x.in-Less.is))
+          (λ x. absurd (omega (arith, x.if-i-gt0.false))) c.if-i-gt0.branch-raw),
       cell-proper _ 0 _ _ v.value_at.ensures o.in-Got.cell o.in-Got.next o.in-Got.is,
       omega arith,
     )

@@ -5,49 +5,49 @@ use Rattle.serve.proofs.Hand.{taken-at-hand, turned}
 use Rattle.serve.proofs.flow.take_turn.Statement.{statement}
 use Rattle.serve.proofs.flow.take_turn.Tie as tie
 
-pass-over-requires : tie.Need-pass-over-requires
+pass-over-requires : tie.Need-pass_over-g-requires
 pass-over-requires c κs = search rules
 
-sub-run : tie.Need-overflow-sub-run
+sub-run : tie.Need-slice_bounds-run-count
 sub-run c = search rules
 
-part-run-start : tie.Need-slice-bounds-run-start
+part-run-start : tie.Need-slice_bounds-run-start
 part-run-start c = search rules
 
-part-run-end : tie.Need-slice-bounds-run-end
+part-run-end : tie.Need-slice_bounds-run-end
 part-run-end c = search rules
 
-run-requires : tie.Need-run-requires
+run-requires : tie.Need-run-ran-requires
 run-requires c κs = search rules
 
-keep-requires : tie.Need-keep-requires
+keep-requires : tie.Need-keep-flow-requires
 keep-requires c κs =
     let b = c.before.before.before.before.before.before.before.before.before.before.before.before.before.before.before in
-    let a = b.before.before.before.before.before.before in
-    (taken-at-hand b.pass-over.result.have _ _ b.pass-over.new.0 c.before.before.before.before.before.before.before.run.ensures.passed, omega (arith, b.pass-over.ensures.have, b.pass-over.auto.0, a.requires.1))
+    let a = b.before in
+    (taken-at-hand b.pass-over.result.have _ _ b.pass-over.new.0 c.run-ran.ensures.passed, omega (arith, b.pass-over.ensures.have, b.pass-over.auto.0, a.requires.1))
 
-same_length : tie.Need-same-length
+same_length : tie.Need-shape_of-s
 same_length c = search rules
 
-same-length-2 : tie.Need-same-length-2
+same-length-2 : tie.Need-shape_of-j
 same-length-2 c = search rules
 
-same-length-3 : tie.Need-same-length-3
+same-length-3 : tie.Need-shape_of-input
 same-length-3 c = search rules
 
-same-length-4 : tie.Need-same-length-4
+same-length-4 : tie.Need-shape_of-out
 same-length-4 c = search rules
 
 returns : tie.Need-returns
 returns c =
-    let a = c.before.before.before.before.before.before.before.before.before.before.before.before.before.before.before.before.before.before.before.before.before.before.before.before.args in
+    let a = c.before.args in
     let b = c.before.before.before.before.before.before.before.before.before.before.before.before.before.before.before.before.before.before in
     let r = c.before.before.before.before.before.before.before.before.before.before in
     let k = c.before.before in
-    turned a.p a.places a.f b.pass-over.result k.keep.result (lent a.s.now a.j.now) (lent r.run.new.0 r.run.new.1.1.1.0) a.input.now b.pass-over.new.0 k.keep.new.0 a.out.now r.run.new.1.1.1.1.1.1.1.0 r.run.result b.pass-over.ensures r.run.ensures k.keep.ensures
+    turned a.p a.places a.f b.pass-over.result k.keep-flow.result (lent a.s.now a.j.now) (lent r.run-ran.new.s r.run-ran.new.j.1.1.0) a.input.now b.pass-over.new.0 k.keep-flow.new.input a.out.now r.run-ran.new.j.1.1.1.1.1.1.0 r.run-ran.result b.pass-over.ensures r.run-ran.ensures k.keep-flow.ensures
 
-pub take-turn-spec : {M : Type 1} → statement M
-take-turn-spec =
+pub take_turn_spec : {M : Type 1} → statement M
+take_turn_spec =
     tie.close
     (tie.spec
     pass-over-requires

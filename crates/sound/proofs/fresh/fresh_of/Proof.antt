@@ -1,4 +1,5 @@
 -- `sound::fresh::fresh_of` meets its contract. Assumes nothing.
+use Rattle.std.proofs.lemmas.Bool.{not_from_false, not_from_true}
 use mathlib.Core.Path.{◌≡◌, refl}
 use mathlib.Core.Bool.{true}
 use Prim.Native.Nat.{◌≤◌}
@@ -14,7 +15,7 @@ use Rattle.sound.proofs.fresh.fresh_of.Tie as tie
 
 -- the length is right, and the cleared buffer holds the header
 right : (c : tie.After-clear) → right_length c.before.args.p c.before.args.s.now ≡ true
-right c = was-true c.right_length.ensures c.if-not-right_length.false
+right c = was-true c.right_length.ensures (not_from_true _ c.if-not-right_length.false)
 
 header : (c : tie.After-clear) → header_width ≤ length c.clear.new.s
 header c = cleared-header _ _ _ (right c) c.clear.ensures
@@ -30,7 +31,7 @@ same_length c = search rules
 
 returns : tie.Need-returns-then-not-right_length
 returns c =
-    let a = c.before.args in not-fresh a.p a.s.now _ (was-false c.right_length.ensures c.if-not-right_length.true) c.refused.ensures
+    let a = c.before.args in not-fresh a.p a.s.now _ (was-false c.right_length.ensures (not_from_false _ c.if-not-right_length.true)) c.refused.ensures
 
 clear-requires : tie.Need-clear-requires
 clear-requires c κs = search rules

@@ -1,4 +1,5 @@
 -- `sound::index_test::are_cells_entered` meets its contract. Assumes nothing.
+use Rattle.std.proofs.lemmas.Bool.{not_from_false, not_from_true}
 use mathlib.Core.Path.{◌≡◌, refl}
 use Prim.Native.Nat.{◌-◌, ◌+◌, ◌≤◌, ◌<◌}
 use native.Mathlib.Omega.{arith}
@@ -92,7 +93,7 @@ turn c =
     row-turn a.p a.rec.now a.row.now (entered_cell (entries_in a.p a.places a.s.now) (read_row a.p (parse a.p a.places a.s.now).tables a.row.now)) q.1.bytes c.loop-i.i (inner c.before.before.before) c.loop-i.invariant.1 (column_of c.read_column-c.result) c.read_column-c.ensures.is _ c.cell_at-d.ensures.0 _ (entered-cell-is a.p a.places a.s.now a.row.now a.rec.now q.1.bytes.coded q.1 (text_bytes c.read_name-name.result) c.read_name-name.ensures.0 _ c.key_at-at.ensures.0 _ c.read_cell-k.ensures.0 c.loop-i.i (omega (arith, inner c.before.before.before, count-byte a.p a.rec.now)) _ c.cell_at-d.ensures.0 (entries_in a.p a.places a.s.now) (column_of c.read_column-c.result) _ c.is_cell_entered.ensures)
 
 returns : tie.Need-returns-then-not-is_cell_entered invariant-loop decreases-loop
-returns c = (turn c.before).0 c.if-not-is_cell_entered.true
+returns c = (turn c.before).0 (not_from_false _ c.if-not-is_cell_entered.true)
 
 add-i : tie.Need-overflow_add-i invariant-loop decreases-loop
 add-i c = omega (arith, inner c.before.before.before.before, c.shared_slice_known-4-1.given 26)
@@ -101,7 +102,7 @@ loop-less : tie.Need-loop-i-smaller invariant-loop decreases-loop
 loop-less c = fewer-left _ _ c.loop-i-test.true
 
 loop-again : tie.Need-loop-i-preserved invariant-loop decreases-loop
-loop-again c = (c.loop-i.invariant.0, (turn c.before).1 c.if-not-is_cell_entered.false)
+loop-again c = (c.loop-i.invariant.0, (turn c.before).1 (not_from_true _ c.if-not-is_cell_entered.false))
 
 returns-2 : tie.Need-returns invariant-loop decreases-loop
 returns-2 c =

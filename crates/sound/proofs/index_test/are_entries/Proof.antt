@@ -1,4 +1,5 @@
 -- `sound::index_test::are_entries` meets its contract. Assumes nothing.
+use Rattle.std.proofs.lemmas.Bool.{not_from_false, not_from_true}
 use mathlib.Core.Path.{refl, sym}
 use mathlib.Core.List.{map-id}
 use Prim.Native.Nat.{◌-◌}
@@ -43,7 +44,7 @@ turn c =
     walk_turn a.p a.places a.s.now Entries _ c.entry_count-count.ensures (λ r. r) (lists a.p a.places a.s.now).entries (sym (map-id (lists a.p a.places a.s.now).entries)) (is_entry a.p) _ _ _ c.loop-i.invariant c.loop-i-test.true c.entry_record.ensures c.is_entry.ensures
 
 returns : tie.Need-returns-then-not-is_entry invariant-loop decreases-loop
-returns c = (turn c.before).0 c.if-not-is_entry.true
+returns c = (turn c.before).0 (not_from_false _ c.if-not-is_entry.true)
 
 add-i : tie.Need-overflow_add-i invariant-loop decreases-loop
 add-i c = next_fits _ _ c.loop-i-test.true c.entry_count-count.type_inv
@@ -52,7 +53,7 @@ loop-less : tie.Need-loop-i-smaller invariant-loop decreases-loop
 loop-less c = fewer-left _ _ c.loop-i-test.true
 
 loop-again : tie.Need-loop-i-preserved invariant-loop decreases-loop
-loop-again c = (turn c.before).1 c.if-not-is_entry.false
+loop-again c = (turn c.before).1 (not_from_true _ c.if-not-is_entry.false)
 
 returns-2 : tie.Need-returns invariant-loop decreases-loop
 returns-2 c =

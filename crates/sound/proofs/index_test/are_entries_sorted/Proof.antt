@@ -1,4 +1,5 @@
 -- `sound::index_test::are_entries_sorted` meets its contract. Assumes nothing.
+use Rattle.std.proofs.lemmas.Bool.{not_from_false, not_from_true}
 use mathlib.Core.Path.{refl}
 use Prim.Native.Nat.{◌-◌}
 use native.Mathlib.Nat.{le_refl}
@@ -53,7 +54,7 @@ turn c =
     sort-turn a.p a.places a.s.now Entries _ c.entry_count-count.ensures (read_entry a.p) (entries_in a.p a.places a.s.now) (entries-read a.p a.places a.s.now) cmp_entry _ _ _ _ c.loop-i.invariant c.loop-i-test.true c.entry_record-a.ensures c.entry_record-b.ensures c.is_entry_before.ensures
 
 returns : tie.Need-returns-then-not-is_entry_before invariant-loop decreases-loop
-returns c = (turn c.before).0 c.if-not-is_entry_before.true
+returns c = (turn c.before).0 (not_from_false _ c.if-not-is_entry_before.true)
 
 add-i : tie.Need-overflow_add-i invariant-loop decreases-loop
 add-i c = next_fits _ _ c.loop-i-test.true c.entry_count-count.type_inv
@@ -62,7 +63,7 @@ loop-less : tie.Need-loop-i-smaller invariant-loop decreases-loop
 loop-less c = fewer-left _ _ c.loop-i-test.true
 
 loop-again : tie.Need-loop-i-preserved invariant-loop decreases-loop
-loop-again c = (turn c.before).1 c.if-not-is_entry_before.false
+loop-again c = (turn c.before).1 (not_from_true _ c.if-not-is_entry_before.false)
 
 returns-2 : tie.Need-returns invariant-loop decreases-loop
 returns-2 c =

@@ -1,4 +1,5 @@
 -- `sound::index_test::is_entered` meets its contract. Assumes nothing.
+use Rattle.std.proofs.lemmas.Bool.{not_from_false, not_from_true}
 use mathlib.Core.Path.{◌≡◌, refl}
 use Prim.Native.Nat.{◌≤◌}
 use native.Mathlib.Omega.{arith}
@@ -72,7 +73,7 @@ enum_told c = search rules
 returns-2 : tie.Need-returns-then-not-alone
 returns-2 c =
     let a = c.args in
-    entry-any a.p a.places a.s.now c.requires.0 (entry_of a.name a.column a.v a.key) _ _ _ c.entries_at-from.ensures c.entry_width-width.ensures c.entry_count-count.ensures _ c.entered_before-i.ensures a.alone c.if-count-i.false _ c.entry_record.ensures _ c.compare_entered.ensures (same-is c.compare_entered.result _ refl c.in-Same.is) c.if-not-alone.true
+    entry-any a.p a.places a.s.now c.requires.0 (entry_of a.name a.column a.v a.key) _ _ _ c.entries_at-from.ensures c.entry_width-width.ensures c.entry_count-count.ensures _ c.entered_before-i.ensures a.alone c.if-count-i.false _ c.entry_record.ensures _ c.compare_entered.ensures (same-is c.compare_entered.result _ refl c.in-Same.is) (not_from_false _ c.if-not-alone.true)
 
 add-next : tie.Need-overflow_add-next
 add-next c = search rules
@@ -80,7 +81,7 @@ add-next c = search rules
 returns-3 : tie.Need-returns-then-count-next
 returns-3 c =
     let a = c.args in
-    entry-last a.p a.places a.s.now c.requires.0 (entry_of a.name a.column a.v a.key) _ _ _ c.entries_at-from.ensures c.entry_width-width.ensures c.entry_count-count.ensures _ c.entered_before-i.ensures a.alone c.if-count-i.false _ c.entry_record.ensures _ c.compare_entered.ensures (same-is c.compare_entered.result _ refl c.in-Same.is) c.if-not-alone.false c.if-count-next.true
+    entry-last a.p a.places a.s.now c.requires.0 (entry_of a.name a.column a.v a.key) _ _ _ c.entries_at-from.ensures c.entry_width-width.ensures c.entry_count-count.ensures _ c.entered_before-i.ensures a.alone c.if-count-i.false _ c.entry_record.ensures _ c.compare_entered.ensures (same-is c.compare_entered.result _ refl c.in-Same.is) (not_from_true _ c.if-not-alone.false) c.if-count-next.true
 
 entry-record-requires-2 : tie.Need-entry_record-requires-in-Same
 entry-record-requires-2 c κs =
@@ -96,7 +97,7 @@ is-alike-requires c κs =
 returns-4 : tie.Need-returns-else-count-next
 returns-4 c =
     let a = c.args in
-    entry_next a.p a.places a.s.now c.requires.0 (entry_of a.name a.column a.v a.key) _ _ _ c.entries_at-from.ensures c.entry_width-width.ensures c.entry_count-count.ensures _ c.entered_before-i.ensures a.alone c.if-count-i.false _ c.entry_record.ensures _ c.compare_entered.ensures (same-is c.compare_entered.result _ refl c.in-Same.is) c.if-not-alone.false c.if-count-next.false _ c.entry_record-in-Same.ensures _ c.is_alike.ensures
+    entry_next a.p a.places a.s.now c.requires.0 (entry_of a.name a.column a.v a.key) _ _ _ c.entries_at-from.ensures c.entry_width-width.ensures c.entry_count-count.ensures _ c.entered_before-i.ensures a.alone c.if-count-i.false _ c.entry_record.ensures _ c.compare_entered.ensures (same-is c.compare_entered.result _ refl c.in-Same.is) (not_from_true _ c.if-not-alone.false) c.if-count-next.false _ c.entry_record-in-Same.ensures _ c.is_alike.ensures
 
 returns-5 : tie.Need-returns-in_default
 returns-5 c =

@@ -1,4 +1,5 @@
 -- `sound::index_test::is_entry` meets its contract. Assumes nothing.
+use Rattle.std.proofs.lemmas.Bool.{not_from_false, not_from_true}
 use mathlib.Core.Path.{◌≡◌}
 use native.Mathlib.Omega.{arith}
 use lib.ListN.{length}
@@ -30,7 +31,7 @@ returns : tie.Need-returns-then-not-is_name_cell
 returns c =
     let a = c.args in
     let q = c.requires in
-    entry-1 a.p q.0 a.rec.now (λ i. (c.shared_slice_known-1.given i).fits) q.1 _ c.is_name_cell.ensures c.if-not-is_name_cell.true
+    entry-1 a.p q.0 a.rec.now (λ i. (c.shared_slice_known-1.given i).fits) q.1 _ c.is_name_cell.ensures (not_from_false _ c.if-not-is_name_cell.true)
 
 sub-is-cell : tie.Need-slice_bounds-is_cell-count
 sub-is-cell c = search rules
@@ -48,7 +49,7 @@ returns-2 : tie.Need-returns-then-not-is_cell
 returns-2 c =
     let a = c.args in
     let q = c.requires in
-    entry-2 a.p q.0 a.rec.now (λ i. (c.shared_slice_known-1.given i).fits) q.1 _ c.is_name_cell.ensures c.if-not-is_name_cell.false _ c.is_cell.ensures c.if-not-is_cell.true
+    entry-2 a.p q.0 a.rec.now (λ i. (c.shared_slice_known-1.given i).fits) q.1 _ c.is_name_cell.ensures (not_from_true _ c.if-not-is_name_cell.false) _ c.is_cell.ensures (not_from_false _ c.if-not-is_cell.true)
 
 sub-is-cell-2 : tie.Need-slice_bounds-is_cell-count-2
 sub-is-cell-2 c = search rules
@@ -66,7 +67,7 @@ returns-3 : tie.Need-returns
 returns-3 c =
     let a = c.args in
     let q = c.requires in
-    entry-3 a.p q.0 a.rec.now (λ i. (c.shared_slice_known-1.given i).fits) q.1 _ c.is_name_cell.ensures c.if-not-is_name_cell.false _ c.is_cell.ensures c.if-not-is_cell.false _ c.is_cell-2.ensures
+    entry-3 a.p q.0 a.rec.now (λ i. (c.shared_slice_known-1.given i).fits) q.1 _ c.is_name_cell.ensures (not_from_true _ c.if-not-is_name_cell.false) _ c.is_cell.ensures (not_from_true _ c.if-not-is_cell.false) _ c.is_cell-2.ensures
 
 pub is_entry_spec : {M : Type 1} → statement M
 is_entry_spec =

@@ -1,4 +1,5 @@
 -- `sound::journal_test::are_events` meets its contract. Assumes nothing.
+use Rattle.std.proofs.lemmas.Bool.{not_from_false, not_from_true}
 use native.Mathlib.Omega.{arith}
 use Prim.Native.Nat.{◌-◌}
 use mathlib.Core.Path.{refl, ap, ◌∙◌}
@@ -31,7 +32,7 @@ is-event-requires : tie.Need-is_event-requires invariant-loop decreases-loop
 is-event-requires c κs = let a = c.args in let q = c.requires in let f = is_event a.p (parse a.p a.places a.s.now).tables in (q.0, ap length c.place_at.ensures ∙ page-long a.p a.j.now _ (page-inside a.p a.j.now _ c.used-count.ensures q.1 q.2 _ c.loop-i-test.true))
 
 returns : tie.Need-returns-then-not-is_event invariant-loop decreases-loop
-returns c = let a = c.args in let q = c.requires in let f = is_event a.p (parse a.p a.places a.s.now).tables in (page-turn a.p a.j.now _ c.used-count.ensures f _ c.loop-i.invariant c.loop-i-test.true c.place_at.ensures c.is_event.ensures).0 c.if-not-is_event.true
+returns c = let a = c.args in let q = c.requires in let f = is_event a.p (parse a.p a.places a.s.now).tables in (page-turn a.p a.j.now _ c.used-count.ensures f _ c.loop-i.invariant c.loop-i-test.true c.place_at.ensures c.is_event.ensures).0 (not_from_false _ c.if-not-is_event.true)
 
 add-i : tie.Need-overflow_add-i invariant-loop decreases-loop
 add-i c = next_fits _ _ c.loop-i-test.true c.used-count.type_inv
@@ -40,7 +41,7 @@ loop-less : tie.Need-loop-i-smaller invariant-loop decreases-loop
 loop-less c = fewer-left _ _ c.loop-i-test.true
 
 loop-again : tie.Need-loop-i-preserved invariant-loop decreases-loop
-loop-again c = let a = c.args in let q = c.requires in let f = is_event a.p (parse a.p a.places a.s.now).tables in (page-turn a.p a.j.now _ c.used-count.ensures f _ c.loop-i.invariant c.loop-i-test.true c.place_at.ensures c.is_event.ensures).1 c.if-not-is_event.false
+loop-again c = let a = c.args in let q = c.requires in let f = is_event a.p (parse a.p a.places a.s.now).tables in (page-turn a.p a.j.now _ c.used-count.ensures f _ c.loop-i.invariant c.loop-i-test.true c.place_at.ensures c.is_event.ensures).1 (not_from_true _ c.if-not-is_event.false)
 
 returns-2 : tie.Need-returns invariant-loop decreases-loop
 returns-2 c = let a = c.args in let q = c.requires in let f = is_event a.p (parse a.p a.places a.s.now).tables in page-end a.p a.j.now _ c.used-count.ensures f _ c.loop-i.invariant c.loop-i-test.false

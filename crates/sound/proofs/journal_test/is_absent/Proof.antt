@@ -1,4 +1,5 @@
 -- `sound::journal_test::is_absent` meets its contract. Assumes nothing.
+use Rattle.std.proofs.lemmas.Bool.{not_from_false, not_from_true}
 use Rattle.rules.specs.Layout.{parse}
 use Rattle.journal.proofs.Turning.{answer-is}
 use Rattle.sound.proofs.JournalAsked.{absent-kind, absent-name, absent-cell, absent-zeros, absent-nowhere, absent-stored}
@@ -25,7 +26,7 @@ is-name-cell-requires : tie.Need-is_name_cell-requires
 is-name-cell-requires c κs = search rules
 
 returns-2 : tie.Need-returns-then-not-is_name_cell
-returns-2 c = let a = c.args in let ts = (parse a.p a.places a.s.now).tables in absent-name ts a.rec.now c.if-rec-ne-NOTHING.false c.is_name_cell.ensures c.if-not-is_name_cell.true
+returns-2 c = let a = c.args in let ts = (parse a.p a.places a.s.now).tables in absent-name ts a.rec.now c.if-rec-ne-NOTHING.false c.is_name_cell.ensures (not_from_false _ c.if-not-is_name_cell.true)
 
 sub-is-cell : tie.Need-slice_bounds-is_cell-count
 sub-is-cell c = search rules
@@ -40,7 +41,7 @@ is-cell-requires : tie.Need-is_cell-requires
 is-cell-requires c κs = search rules
 
 returns-3 : tie.Need-returns-then-not-is_cell
-returns-3 c = let a = c.args in let ts = (parse a.p a.places a.s.now).tables in absent-cell ts a.rec.now c.if-rec-ne-NOTHING.false c.is_name_cell.ensures c.if-not-is_name_cell.false c.is_cell.ensures c.if-not-is_cell.true
+returns-3 c = let a = c.args in let ts = (parse a.p a.places a.s.now).tables in absent-cell ts a.rec.now c.if-rec-ne-NOTHING.false c.is_name_cell.ensures (not_from_true _ c.if-not-is_name_cell.false) c.is_cell.ensures (not_from_false _ c.if-not-is_cell.true)
 
 sub-all-zero : tie.Need-slice_bounds-all_zero-count
 sub-all-zero c = search rules
@@ -55,7 +56,7 @@ all-zero-requires : tie.Need-all_zero-requires
 all-zero-requires c κs = search rules
 
 returns-4 : tie.Need-returns-then-not-all_zero
-returns-4 c = let a = c.args in let ts = (parse a.p a.places a.s.now).tables in absent-zeros ts a.rec.now c.if-rec-ne-NOTHING.false c.is_name_cell.ensures c.if-not-is_name_cell.false c.is_cell.ensures c.if-not-is_cell.false c.all_zero.ensures c.if-not-all_zero.true
+returns-4 c = let a = c.args in let ts = (parse a.p a.places a.s.now).tables in absent-zeros ts a.rec.now c.if-rec-ne-NOTHING.false c.is_name_cell.ensures (not_from_true _ c.if-not-is_name_cell.false) c.is_cell.ensures (not_from_true _ c.if-not-is_cell.false) c.all_zero.ensures (not_from_false _ c.if-not-all_zero.true)
 
 sub-read-name : tie.Need-slice_bounds-read_name-count
 sub-read-name c = search rules
@@ -79,10 +80,10 @@ enum-told-2 : tie.Need-enum_told-in-Nothing
 enum-told-2 c = search rules
 
 returns-5 : tie.Need-returns-in-At
-returns-5 c = let a = c.args in let ts = (parse a.p a.places a.s.now).tables in absent-stored ts a.rec.now c.if-rec-ne-NOTHING.false c.is_name_cell.ensures c.if-not-is_name_cell.false c.is_cell.ensures c.if-not-is_cell.false c.all_zero.ensures c.if-not-all_zero.false c.read_name-name.ensures.0 (answer-is c.in-At.is c.get_table.ensures)
+returns-5 c = let a = c.args in let ts = (parse a.p a.places a.s.now).tables in absent-stored ts a.rec.now c.if-rec-ne-NOTHING.false c.is_name_cell.ensures (not_from_true _ c.if-not-is_name_cell.false) c.is_cell.ensures (not_from_true _ c.if-not-is_cell.false) c.all_zero.ensures (not_from_true _ c.if-not-all_zero.false) c.read_name-name.ensures.0 (answer-is c.in-At.is c.get_table.ensures)
 
 returns-6 : tie.Need-returns-in-Nothing
-returns-6 c = let a = c.args in let ts = (parse a.p a.places a.s.now).tables in absent-nowhere ts a.rec.now c.if-rec-ne-NOTHING.false c.is_name_cell.ensures c.if-not-is_name_cell.false c.is_cell.ensures c.if-not-is_cell.false c.all_zero.ensures c.if-not-all_zero.false c.read_name-name.ensures.0 (answer-is c.in-Nothing.is c.get_table.ensures)
+returns-6 c = let a = c.args in let ts = (parse a.p a.places a.s.now).tables in absent-nowhere ts a.rec.now c.if-rec-ne-NOTHING.false c.is_name_cell.ensures (not_from_true _ c.if-not-is_name_cell.false) c.is_cell.ensures (not_from_true _ c.if-not-is_cell.false) c.all_zero.ensures (not_from_true _ c.if-not-all_zero.false) c.read_name-name.ensures.0 (answer-is c.in-Nothing.is c.get_table.ensures)
 
 pub is_absent_spec : {M : Type 1} → statement M
 is_absent_spec =

@@ -1,4 +1,5 @@
 -- `sound::layout_test::is_laid_out` meets its contract. Assumes nothing.
+use Rattle.std.proofs.lemmas.Bool.{not_from_false, not_from_true}
 use mathlib.Core.Path.{◌≡◌, refl}
 use mathlib.Core.Bool.{true}
 use native.Mathlib.Omega.{arith}
@@ -14,7 +15,7 @@ use Rattle.sound.proofs.layout_test.is_laid_out.Tie as tie
 head : (c : tie.Else-not-is_headed) →
     let a = c.args in
     headed a.p a.places a.s.now ≡ true
-head c = was-true c.is_headed.ensures c.if-not-is_headed.false
+head c = was-true c.is_headed.ensures (not_from_true _ c.if-not-is_headed.false)
 
 told-1 : (c : tie.After-is_spare) →
     let a = c.args in
@@ -30,7 +31,7 @@ is-headed-requires : tie.Need-is_headed-requires
 is-headed-requires c κs = search rules
 
 returns : tie.Need-returns-then-not-is_headed
-returns c = laid-1 _ _ _ _ c.is_headed.ensures c.if-not-is_headed.true
+returns c = laid-1 _ _ _ _ c.is_headed.ensures (not_from_false _ c.if-not-is_headed.true)
 
 table-count-requires : tie.Need-table_count-tables-requires
 table-count-requires c κs =
@@ -44,7 +45,7 @@ is-spare-requires : tie.Need-is_spare-requires
 is-spare-requires c κs = area-asked _ _ _ c.requires.2 Schemas _ _ _ _ refl c.schema_width.ensures refl c.table_count-tables.ensures (headed-is _ _ _ (head c.before.before)).tables
 
 returns-2 : tie.Need-returns-then-not-is_spare
-returns-2 c = laid-2 _ _ _ (head c.before.before.before.before) (was-false (told-1 c.before) c.if-not-is_spare.true)
+returns-2 c = laid-2 _ _ _ (head c.before.before.before.before) (was-false (told-1 c.before) (not_from_false _ c.if-not-is_spare.true))
 
 row-count-requires : tie.Need-row_count-rows-requires
 row-count-requires c κs =
@@ -61,7 +62,7 @@ is-spare-requires-2 : tie.Need-is_spare-requires-2
 is-spare-requires-2 c κs = area-asked _ _ _ c.requires.2 Rows _ _ _ _ c.rows_at.ensures c.row_width.ensures refl c.row_count-rows.ensures (headed-is _ _ _ (head c.before.before.before.before.before.before.before)).rows
 
 returns-3 : tie.Need-returns-then-not-is_spare-2
-returns-3 c = laid-3 _ _ _ (head c.before.before.before.before.before.before.before.before.before) (was-true (told-1 c.before.before.before.before.before.before) c.if-not-is_spare.false) (was-false (told-2 c.before) c.if-not-is_spare-2.true)
+returns-3 c = laid-3 _ _ _ (head c.before.before.before.before.before.before.before.before.before) (was-true (told-1 c.before.before.before.before.before.before) (not_from_true _ c.if-not-is_spare.false)) (was-false (told-2 c.before) (not_from_false _ c.if-not-is_spare-2.true))
 
 entry-count-requires : tie.Need-entry_count-entries-requires
 entry-count-requires c κs =
@@ -84,7 +85,7 @@ is-spare-requires-3 : tie.Need-is_spare-requires-3
 is-spare-requires-3 c κs = area-asked _ _ _ c.requires.2 Entries _ _ _ _ c.entries_at.ensures c.entry_width.ensures refl c.entry_count-entries.ensures (headed-is _ _ _ (head c.before.before.before.before.before.before.before.before.before.before.before.before.before)).entries
 
 returns-4 : tie.Need-returns
-returns-4 c = laid-4 _ _ _ (head c.before.before.before.before.before.before.before.before.before.before.before.before.before.before) (was-true (told-1 c.before.before.before.before.before.before.before.before.before.before.before) c.if-not-is_spare.false) (was-true (told-2 c.before.before.before.before.before.before) c.if-not-is_spare-2.false) _ (area-told _ _ _ c.requires.2 Entries _ _ _ _ c.entries_at.ensures c.entry_width.ensures refl c.entry_count-entries.ensures _ c.is_spare-3.ensures)
+returns-4 c = laid-4 _ _ _ (head c.before.before.before.before.before.before.before.before.before.before.before.before.before.before) (was-true (told-1 c.before.before.before.before.before.before.before.before.before.before.before) (not_from_true _ c.if-not-is_spare.false)) (was-true (told-2 c.before.before.before.before.before.before) (not_from_true _ c.if-not-is_spare-2.false)) _ (area-told _ _ _ c.requires.2 Entries _ _ _ _ c.entries_at.ensures c.entry_width.ensures refl c.entry_count-entries.ensures _ c.is_spare-3.ensures)
 
 pub is_laid_out_spec : {M : Type 1} → statement M
 is_laid_out_spec =

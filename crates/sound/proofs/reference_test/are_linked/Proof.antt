@@ -1,4 +1,5 @@
 -- `sound::reference_test::are_linked` meets its contract. Assumes nothing.
+use Rattle.std.proofs.lemmas.Bool.{not_from_false, not_from_true}
 use mathlib.Core.Path.{refl}
 use Prim.Native.Nat.{◌-◌}
 use Rattle.rules.specs.Layout.{Rows, parse, read_row}
@@ -43,7 +44,7 @@ turn c =
     walk_turn a.p a.places a.s.now Rows _ c.row_count-count.ensures (read_row a.p (parse a.p a.places a.s.now).tables) (parse a.p a.places a.s.now).rows (rows-read a.p a.places a.s.now) (references_held (parse a.p a.places a.s.now).tables (parse a.p a.places a.s.now).rows) _ _ _ c.loop-i.invariant c.loop-i-test.true c.row_record.ensures c.is_linked.ensures
 
 returns : tie.Need-returns-then-not-is_linked invariant-loop decreases-loop
-returns c = (turn c.before).0 c.if-not-is_linked.true
+returns c = (turn c.before).0 (not_from_false _ c.if-not-is_linked.true)
 
 add-i : tie.Need-overflow_add-i invariant-loop decreases-loop
 add-i c = next_fits _ _ c.loop-i-test.true c.row_count-count.type_inv
@@ -52,7 +53,7 @@ loop-less : tie.Need-loop-i-smaller invariant-loop decreases-loop
 loop-less c = fewer-left _ _ c.loop-i-test.true
 
 loop-again : tie.Need-loop-i-preserved invariant-loop decreases-loop
-loop-again c = (turn c.before).1 c.if-not-is_linked.false
+loop-again c = (turn c.before).1 (not_from_true _ c.if-not-is_linked.false)
 
 returns-2 : tie.Need-returns invariant-loop decreases-loop
 returns-2 c =

@@ -1,4 +1,5 @@
 -- `sound::row_test::are_cells` meets its contract. Assumes nothing.
+use Rattle.std.proofs.lemmas.Bool.{not_from_false, not_from_true}
 use mathlib.Core.Path.{refl}
 use Prim.Native.Nat.{◌-◌, ◌+◌, ◌*◌, ◌≤◌}
 use native.Mathlib.Omega.{arith}
@@ -56,7 +57,7 @@ turn c =
     part-turn a.row.now 25 26 a.count is_cell 26 c.loop-i.i _ refl c.loop-i.invariant c.loop-i-test.true c.is_cell.ensures
 
 returns : tie.Need-returns-then-not-is_cell invariant-loop decreases-loop
-returns c = (turn c.before).0 c.if-not-is_cell.true
+returns c = (turn c.before).0 (not_from_false _ c.if-not-is_cell.true)
 
 add-i : tie.Need-overflow_add-i invariant-loop decreases-loop
 add-i c = next_fits _ _ c.loop-i-test.true c.ranges.count.fits
@@ -65,7 +66,7 @@ loop-less : tie.Need-loop-i-smaller invariant-loop decreases-loop
 loop-less c = fewer-left _ _ c.loop-i-test.true
 
 loop-again : tie.Need-loop-i-preserved invariant-loop decreases-loop
-loop-again c = (turn c.before).1 c.if-not-is_cell.false
+loop-again c = (turn c.before).1 (not_from_true _ c.if-not-is_cell.false)
 
 returns-2 : tie.Need-returns invariant-loop decreases-loop
 returns-2 c =

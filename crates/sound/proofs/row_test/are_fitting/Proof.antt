@@ -1,4 +1,5 @@
 -- `sound::row_test::are_fitting` meets its contract. Assumes nothing.
+use Rattle.std.proofs.lemmas.Bool.{not_from_false, not_from_true}
 use mathlib.Core.Path.{◌≡◌, refl}
 use Prim.Native.Nat.{◌-◌, ◌≤◌, ◌<◌}
 use native.Mathlib.Omega.{arith}
@@ -60,7 +61,7 @@ turn c =
     row-turn a.p a.rec.now a.row.now fitting c.requires.0 c.loop-i.i (inner c.before.before.before) c.loop-i.invariant.1 (column_of c.read_column-c.result) c.read_column-c.ensures.is _ c.cell_at-d.ensures.0 _ c.is_fitting.ensures
 
 returns : tie.Need-returns-then-not-is_fitting invariant-loop decreases-loop
-returns c = (turn c.before).0 c.if-not-is_fitting.true
+returns c = (turn c.before).0 (not_from_false _ c.if-not-is_fitting.true)
 
 add-i : tie.Need-overflow_add-i invariant-loop decreases-loop
 add-i c = next_fits _ _ (inner c.before.before.before.before) (byte_fits (c.shared_slice_known-3-1.given 26)).fits
@@ -69,7 +70,7 @@ loop-less : tie.Need-loop-i-smaller invariant-loop decreases-loop
 loop-less c = fewer-left _ _ c.loop-i-test.true
 
 loop-again : tie.Need-loop-i-preserved invariant-loop decreases-loop
-loop-again c = (c.loop-i.invariant.0, (turn c.before).1 c.if-not-is_fitting.false)
+loop-again c = (c.loop-i.invariant.0, (turn c.before).1 (not_from_true _ c.if-not-is_fitting.false))
 
 returns-2 : tie.Need-returns invariant-loop decreases-loop
 returns-2 c =

@@ -1,4 +1,5 @@
 -- `sound::row_test::fits_table` meets its contract. Assumes nothing.
+use Rattle.std.proofs.lemmas.Bool.{not_from_false, not_from_true}
 use mathlib.Core.Path.{refl}
 use Prim.Native.Nat.{◌+◌, ◌*◌, ◌≤◌}
 use native.Mathlib.Omega.{arith}
@@ -41,7 +42,7 @@ are-cells-requires c κs =
 returns : tie.Need-returns-then-not-are_cells
 returns c =
     let a = c.args in
-    fits-1 a.p a.rec.now a.row.now _ _ refl c.are_cells.ensures c.if-not-are_cells.true
+    fits-1 a.p a.rec.now a.row.now _ _ refl c.are_cells.ensures (not_from_false _ c.if-not-are_cells.true)
 
 mul-used : tie.Need-overflow_mul-used
 mul-used c = omega (arith, c.shared_slice_known-3-1.given 26)
@@ -64,7 +65,7 @@ all-zero-requires c κs = search rules
 returns-2 : tie.Need-returns-then-not-all_zero
 returns-2 c =
     let a = c.args in
-    fits-2 a.p a.rec.now a.row.now _ _ refl c.are_cells.ensures c.if-not-are_cells.false _ c.all_zero.ensures c.if-not-all_zero.true
+    fits-2 a.p a.rec.now a.row.now _ _ refl c.are_cells.ensures (not_from_true _ c.if-not-are_cells.false) _ c.all_zero.ensures (not_from_false _ c.if-not-all_zero.true)
 
 are-fitting-requires : tie.Need-are_fitting-requires
 are-fitting-requires c κs = search rules
@@ -72,7 +73,7 @@ are-fitting-requires c κs = search rules
 returns-3 : tie.Need-returns-then-not-are_fitting
 returns-3 c =
     let a = c.args in
-    fits-3 a.p a.rec.now a.row.now _ _ refl c.are_cells.ensures c.if-not-are_cells.false _ c.all_zero.ensures c.if-not-all_zero.false _ c.are_fitting.ensures c.if-not-are_fitting.true
+    fits-3 a.p a.rec.now a.row.now _ _ refl c.are_cells.ensures (not_from_true _ c.if-not-are_cells.false) _ c.all_zero.ensures (not_from_true _ c.if-not-all_zero.false) _ c.are_fitting.ensures (not_from_false _ c.if-not-are_fitting.true)
 
 key-at-requires : tie.Need-key_at-at-requires
 key-at-requires c κs = search rules
@@ -95,7 +96,7 @@ is-undefined-requires c κs = search rules
 returns-4 : tie.Need-returns
 returns-4 c =
     let a = c.args in
-    fits-4 a.p a.rec.now a.row.now _ _ refl c.are_cells.ensures c.if-not-are_cells.false _ c.all_zero.ensures c.if-not-all_zero.false _ c.are_fitting.ensures c.if-not-are_fitting.false c.requires.1 _ c.key_at-at.ensures.0 _ c.read_cell-k.ensures.0 _ c.is_undefined.ensures
+    fits-4 a.p a.rec.now a.row.now _ _ refl c.are_cells.ensures (not_from_true _ c.if-not-are_cells.false) _ c.all_zero.ensures (not_from_true _ c.if-not-all_zero.false) _ c.are_fitting.ensures (not_from_true _ c.if-not-are_fitting.false) c.requires.1 _ c.key_at-at.ensures.0 _ c.read_cell-k.ensures.0 _ c.is_undefined.ensures
 
 pub fits_table_spec : {M : Type 1} → statement M
 fits_table_spec =

@@ -1,4 +1,5 @@
 -- `sound::row_test::is_row` meets its contract. Assumes nothing.
+use Rattle.std.proofs.lemmas.Bool.{not_from_false, not_from_true}
 use mathlib.Core.Path.{refl, sym, subst}
 use mathlib.Core.List.{[]}
 use Prim.Native.Nat.{◌≤◌}
@@ -58,7 +59,7 @@ returns-2 : tie.Need-returns-then-not-is_name_cell
 returns-2 c =
     let a = c.args in
     let q = c.requires in
-    row-misnamed a.p a.places a.s.now q.0 a.row.now (λ i. (c.shared_slice_known-2-1.given i).fits) q.1 _ c.read_name.ensures.0 _ (found c.before.before.before) _ c.is_name_cell.ensures c.if-not-is_name_cell.true
+    row-misnamed a.p a.places a.s.now q.0 a.row.now (λ i. (c.shared_slice_known-2-1.given i).fits) q.1 _ c.read_name.ensures.0 _ (found c.before.before.before) _ c.is_name_cell.ensures (not_from_false _ c.if-not-is_name_cell.true)
 
 table-record-requires : tie.Need-table_record-requires
 table-record-requires c κs =
@@ -72,7 +73,7 @@ returns-3 : tie.Need-returns
 returns-3 c =
     let a = c.args in
     let q = c.requires in
-    row_fits a.p a.places a.s.now q.0 a.row.now (λ i. (c.shared_slice_known-2-1.given i).fits) q.1 _ c.read_name.ensures.0 c.table_record.result.now (subst (Here a.p a.places a.s.now (text_bytes c.read_name.result)) (sym c.table_record.ensures) (found c.before.before.before.before.before)) _ c.is_name_cell.ensures c.if-not-is_name_cell.false _ c.fits_table.ensures
+    row_fits a.p a.places a.s.now q.0 a.row.now (λ i. (c.shared_slice_known-2-1.given i).fits) q.1 _ c.read_name.ensures.0 c.table_record.result.now (subst (Here a.p a.places a.s.now (text_bytes c.read_name.result)) (sym c.table_record.ensures) (found c.before.before.before.before.before)) _ c.is_name_cell.ensures (not_from_true _ c.if-not-is_name_cell.false) _ c.fits_table.ensures
 
 pub is_row_spec : {M : Type 1} → statement M
 is_row_spec =

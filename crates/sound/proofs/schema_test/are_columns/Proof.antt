@@ -1,4 +1,5 @@
 -- `sound::schema_test::are_columns` meets its contract. Assumes nothing.
+use Rattle.std.proofs.lemmas.Bool.{not_from_false, not_from_true}
 use mathlib.Core.Path.{refl, ◌∙◌}
 use Prim.Native.Nat.{◌-◌, ◌+◌, ◌*◌, ◌≤◌}
 use native.Mathlib.Omega.{arith}
@@ -61,7 +62,7 @@ turn c =
     part-turn a.rec.now 27 (column_width a.p) a.count (is_column a.p) c.column_width-width.result c.loop-i.i _ c.column_width-width.ensures c.loop-i.invariant c.loop-i-test.true c.is_column.ensures
 
 returns : tie.Need-returns-then-not-is_column invariant-loop decreases-loop
-returns c = (turn c.before).0 c.if-not-is_column.true
+returns c = (turn c.before).0 (not_from_false _ c.if-not-is_column.true)
 
 add-i : tie.Need-overflow_add-i invariant-loop decreases-loop
 add-i c = next_fits _ _ c.loop-i-test.true c.ranges.count.fits
@@ -70,7 +71,7 @@ loop-less : tie.Need-loop-i-smaller invariant-loop decreases-loop
 loop-less c = fewer-left _ _ c.loop-i-test.true
 
 loop-again : tie.Need-loop-i-preserved invariant-loop decreases-loop
-loop-again c = (turn c.before).1 c.if-not-is_column.false
+loop-again c = (turn c.before).1 (not_from_true _ c.if-not-is_column.false)
 
 returns-2 : tie.Need-returns invariant-loop decreases-loop
 returns-2 c =

@@ -1,4 +1,5 @@
 -- `sound::schema_test::are_faultless` meets its contract. Assumes nothing.
+use Rattle.std.proofs.lemmas.Bool.{not_from_false, not_from_true}
 use mathlib.Core.Path.{refl, sym, subst}
 use Prim.Native.Nat.{◌-◌}
 use Rattle.rules.specs.Layout.{Schemas, parse, read_table}
@@ -48,7 +49,7 @@ turn c =
 
 returns : tie.Need-returns-then-not-is_faultless invariant-loop decreases-loop
 unfolding faultless
-returns c = (turn c.before).0 c.if-not-is_faultless.true
+returns c = (turn c.before).0 (not_from_false _ c.if-not-is_faultless.true)
 
 add-i : tie.Need-overflow_add-i invariant-loop decreases-loop
 add-i c = next_fits _ _ c.loop-i-test.true c.table_count-count.type_inv
@@ -57,7 +58,7 @@ loop-less : tie.Need-loop-i-smaller invariant-loop decreases-loop
 loop-less c = fewer-left _ _ c.loop-i-test.true
 
 loop-again : tie.Need-loop-i-preserved invariant-loop decreases-loop
-loop-again c = (turn c.before).1 c.if-not-is_faultless.false
+loop-again c = (turn c.before).1 (not_from_true _ c.if-not-is_faultless.false)
 
 returns-2 : tie.Need-returns invariant-loop decreases-loop
 unfolding faultless

@@ -1,4 +1,5 @@
 -- `sound::schema_test::are_tables_sorted` meets its contract. Assumes nothing.
+use Rattle.std.proofs.lemmas.Bool.{not_from_false, not_from_true}
 use mathlib.Core.Path.{refl}
 use Prim.Native.Nat.{◌-◌}
 use native.Mathlib.Nat.{le_refl}
@@ -55,7 +56,7 @@ turn c =
     sort-turn a.p a.places a.s.now Schemas _ c.table_count-count.ensures (read_table a.p) (parse a.p a.places a.s.now).tables (tables-read a.p a.places a.s.now) cmp_table _ _ _ _ c.loop-i.invariant c.loop-i-test.true c.table_record-a.ensures c.table_record-b.ensures c.is_table_before.ensures
 
 returns : tie.Need-returns-then-not-is_table_before invariant-loop decreases-loop
-returns c = (turn c.before).0 c.if-not-is_table_before.true
+returns c = (turn c.before).0 (not_from_false _ c.if-not-is_table_before.true)
 
 add-i : tie.Need-overflow_add-i invariant-loop decreases-loop
 add-i c = next_fits _ _ c.loop-i-test.true c.table_count-count.type_inv
@@ -64,7 +65,7 @@ loop-less : tie.Need-loop-i-smaller invariant-loop decreases-loop
 loop-less c = fewer-left _ _ c.loop-i-test.true
 
 loop-again : tie.Need-loop-i-preserved invariant-loop decreases-loop
-loop-again c = (turn c.before).1 c.if-not-is_table_before.false
+loop-again c = (turn c.before).1 (not_from_true _ c.if-not-is_table_before.false)
 
 returns-2 : tie.Need-returns invariant-loop decreases-loop
 returns-2 c =

@@ -1,4 +1,5 @@
 -- `sound::schema_test::is_column` meets its contract. Assumes nothing.
+use Rattle.std.proofs.lemmas.Bool.{not_from_false, not_from_true}
 use mathlib.Core.Path.{◌≡◌}
 use native.Mathlib.Omega.{arith}
 use lib.ListN.{length}
@@ -30,7 +31,7 @@ returns : tie.Need-returns-then-not-is_name_cell
 returns c =
     let a = c.args in
     let q = c.requires in
-    column-1 a.p q.0 a.col.now (λ i. (c.shared_slice_known-1.given i).fits) q.1 _ c.is_name_cell.ensures c.if-not-is_name_cell.true
+    column-1 a.p q.0 a.col.now (λ i. (c.shared_slice_known-1.given i).fits) q.1 _ c.is_name_cell.ensures (not_from_false _ c.if-not-is_name_cell.true)
 
 shared-slice-read-flags : tie.Need-bounds-col-26
 shared-slice-read-flags c = omega (arith, long c.before.before.before.before)
@@ -39,7 +40,7 @@ returns-2 : tie.Need-returns-then-flags-gt-FLAGS_MOST
 returns-2 c =
     let a = c.args in
     let q = c.requires in
-    column-2 a.p q.0 a.col.now (λ i. (c.shared_slice_known-1.given i).fits) q.1 _ c.is_name_cell.ensures c.if-not-is_name_cell.false c.if-flags-gt-FLAGS_MOST.true
+    column-2 a.p q.0 a.col.now (λ i. (c.shared_slice_known-1.given i).fits) q.1 _ c.is_name_cell.ensures (not_from_true _ c.if-not-is_name_cell.false) c.if-flags-gt-FLAGS_MOST.true
 
 sub-is-default : tie.Need-slice_bounds-is_default-count
 sub-is-default c = search rules
@@ -57,7 +58,7 @@ returns-3 : tie.Need-returns-then-not-is_default
 returns-3 c =
     let a = c.args in
     let q = c.requires in
-    column-3 a.p q.0 a.col.now (λ i. (c.shared_slice_known-1.given i).fits) q.1 _ c.is_name_cell.ensures c.if-not-is_name_cell.false c.if-flags-gt-FLAGS_MOST.false _ c.is_default.ensures c.if-not-is_default.true
+    column-3 a.p q.0 a.col.now (λ i. (c.shared_slice_known-1.given i).fits) q.1 _ c.is_name_cell.ensures (not_from_true _ c.if-not-is_name_cell.false) c.if-flags-gt-FLAGS_MOST.false _ c.is_default.ensures (not_from_false _ c.if-not-is_default.true)
 
 sub-is-reference : tie.Need-slice_bounds-is_reference-count
 sub-is-reference c = search rules
@@ -75,7 +76,7 @@ returns-4 : tie.Need-returns-then-not-is_reference
 returns-4 c =
     let a = c.args in
     let q = c.requires in
-    column-4 a.p q.0 a.col.now (λ i. (c.shared_slice_known-1.given i).fits) q.1 _ c.is_name_cell.ensures c.if-not-is_name_cell.false c.if-flags-gt-FLAGS_MOST.false _ c.is_default.ensures c.if-not-is_default.false _ c.is_reference.ensures c.if-not-is_reference.true
+    column-4 a.p q.0 a.col.now (λ i. (c.shared_slice_known-1.given i).fits) q.1 _ c.is_name_cell.ensures (not_from_true _ c.if-not-is_name_cell.false) c.if-flags-gt-FLAGS_MOST.false _ c.is_default.ensures (not_from_true _ c.if-not-is_default.false) _ c.is_reference.ensures (not_from_false _ c.if-not-is_reference.true)
 
 shared-slice-read-kind : tie.Need-bounds-col-25
 shared-slice-read-kind c = omega (arith, long c.before.before.before.before.before.before.before.before.before.before.before.before)
@@ -84,13 +85,13 @@ returns-5 : tie.Need-returns-then-kind-lt1
 returns-5 c =
     let a = c.args in
     let q = c.requires in
-    column-5 a.p q.0 a.col.now (λ i. (c.shared_slice_known-1.given i).fits) q.1 _ c.is_name_cell.ensures c.if-not-is_name_cell.false c.if-flags-gt-FLAGS_MOST.false _ c.is_default.ensures c.if-not-is_default.false _ c.is_reference.ensures c.if-not-is_reference.false c.if-kind-lt1.true
+    column-5 a.p q.0 a.col.now (λ i. (c.shared_slice_known-1.given i).fits) q.1 _ c.is_name_cell.ensures (not_from_true _ c.if-not-is_name_cell.false) c.if-flags-gt-FLAGS_MOST.false _ c.is_default.ensures (not_from_true _ c.if-not-is_default.false) _ c.is_reference.ensures (not_from_true _ c.if-not-is_reference.false) c.if-kind-lt1.true
 
 returns-6 : tie.Need-returns
 returns-6 c =
     let a = c.args in
     let q = c.requires in
-    column-6 a.p q.0 a.col.now (λ i. (c.shared_slice_known-1.given i).fits) q.1 _ c.is_name_cell.ensures c.if-not-is_name_cell.false c.if-flags-gt-FLAGS_MOST.false _ c.is_default.ensures c.if-not-is_default.false _ c.is_reference.ensures c.if-not-is_reference.false c.if-kind-lt1.false
+    column-6 a.p q.0 a.col.now (λ i. (c.shared_slice_known-1.given i).fits) q.1 _ c.is_name_cell.ensures (not_from_true _ c.if-not-is_name_cell.false) c.if-flags-gt-FLAGS_MOST.false _ c.is_default.ensures (not_from_true _ c.if-not-is_default.false) _ c.is_reference.ensures (not_from_true _ c.if-not-is_reference.false) c.if-kind-lt1.false
 
 pub is_column_spec : {M : Type 1} → statement M
 is_column_spec =

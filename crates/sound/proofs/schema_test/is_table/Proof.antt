@@ -1,4 +1,5 @@
 -- `sound::schema_test::is_table` meets its contract. Assumes nothing.
+use Rattle.std.proofs.lemmas.Bool.{not_from_false, not_from_true}
 use Prim.Native.Nat.{◌≤◌, ◌+◌, ◌*◌}
 use native.Mathlib.Omega.{arith}
 use lib.ListN.{length, get_or}
@@ -36,7 +37,7 @@ returns : tie.Need-returns-then-not-is_name_cell
 returns c =
     let a = c.args in
     let q = c.requires in
-    table-1 a.p q.0 a.rec.now (λ i. (c.shared_slice_known-1.given i).fits) q.1 _ c.is_name_cell.ensures c.if-not-is_name_cell.true
+    table-1 a.p q.0 a.rec.now (λ i. (c.shared_slice_known-1.given i).fits) q.1 _ c.is_name_cell.ensures (not_from_false _ c.if-not-is_name_cell.true)
 
 shared-slice-read-count : tie.Need-bounds-rec-26
 shared-slice-read-count c = omega (arith, long c.before.before.before.before)
@@ -48,7 +49,7 @@ returns-2 : tie.Need-returns-then-p-count
 returns-2 c =
     let a = c.args in
     let q = c.requires in
-    table-2 a.p q.0 a.rec.now (λ i. (c.shared_slice_known-1.given i).fits) q.1 _ c.is_name_cell.ensures c.if-not-is_name_cell.false c.if-p-count.true
+    table-2 a.p q.0 a.rec.now (λ i. (c.shared_slice_known-1.given i).fits) q.1 _ c.is_name_cell.ensures (not_from_true _ c.if-not-is_name_cell.false) c.if-p-count.true
 
 are-columns-requires : tie.Need-are_columns-requires
 are-columns-requires c κs = search rules
@@ -57,7 +58,7 @@ returns-3 : tie.Need-returns-then-not-are_columns
 returns-3 c =
     let a = c.args in
     let q = c.requires in
-    table-3 a.p q.0 a.rec.now (λ i. (c.shared_slice_known-1.given i).fits) q.1 _ c.is_name_cell.ensures c.if-not-is_name_cell.false c.if-p-count.false _ c.are_columns.ensures c.if-not-are_columns.true
+    table-3 a.p q.0 a.rec.now (λ i. (c.shared_slice_known-1.given i).fits) q.1 _ c.is_name_cell.ensures (not_from_true _ c.if-not-is_name_cell.false) c.if-p-count.false _ c.are_columns.ensures (not_from_false _ c.if-not-are_columns.true)
 
 column-width-requires : tie.Need-column_width-requires
 column-width-requires c κs = search rules
@@ -84,7 +85,7 @@ returns-4 : tie.Need-returns
 returns-4 c =
     let a = c.args in
     let q = c.requires in
-    table-4 a.p q.0 a.rec.now (λ i. (c.shared_slice_known-1.given i).fits) q.1 _ c.is_name_cell.ensures c.if-not-is_name_cell.false c.if-p-count.false _ c.are_columns.ensures c.if-not-are_columns.false _ c.column_width.ensures _ c.all_zero.ensures
+    table-4 a.p q.0 a.rec.now (λ i. (c.shared_slice_known-1.given i).fits) q.1 _ c.is_name_cell.ensures (not_from_true _ c.if-not-is_name_cell.false) c.if-p-count.false _ c.are_columns.ensures (not_from_true _ c.if-not-are_columns.false) _ c.column_width.ensures _ c.all_zero.ensures
 
 pub is_table_spec : {M : Type 1} → statement M
 is_table_spec =

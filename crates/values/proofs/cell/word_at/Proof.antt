@@ -25,7 +25,7 @@ empty s k = refl
 
 -- the byte of this turn
 here : (c : tie.Joined-p-s invariant-loop decreases-loop) → c.if-p-s.b ≡ get_or c.args.s.now (c.args.k + c.loop-i.i) 0
-here c = ⊎_elim (λ x. x.3 ∙ x.2.ensures) (λ x. x.1 ∙ sym (get_or-eq_default c.args.s.now 0 x.0.left)) c.if-p-s.branch-raw
+here c = ⊎_elim (λ x. x.b-is ∙ x.wide-b.ensures) (λ x. x.b-is ∙ sym (get_or-eq_default c.args.s.now 0 x.if-p-s.false)) c.if-p-s.branch-raw
 
 byte : (c : tie.Joined-p-s invariant-loop decreases-loop) → c.if-p-s.b < 256
 byte c = let e = here c in omega (arith, c.shared_slice_known-1.given (c.args.k + c.loop-i.i))

@@ -29,7 +29,7 @@ abbrev asked : tie.Else-not-is_among → tie.After-is_among
 asked c = c.before
 
 held : (c : tie.Else-not-is_among) → not (asked c).is_among.result ≡ false
-held c = c.if-not-is_among.false
+held c = ap not c.if-not-is_among.false
 
 cell-at-requires : tie.Need-cell_at-x-requires
 cell-at-requires c κs =
@@ -44,13 +44,13 @@ returns : tie.Need-returns-then-not-is_among
 returns c =
     let d = c.before in
     let a = (start d).args in
-    counts-without (values_from a.rec.now a.count a.at) a.j (row_in a.p a.places a.s.now a.k) _ (held-among d) a.own c.if-not-is_among.true
+    counts-without (values_from a.rec.now a.count a.at) a.j (row_in a.p a.places a.s.now a.k) _ (held-among d) a.own (ap not c.if-not-is_among.true)
 
 returns-2 : tie.Need-returns-then-not-own
 returns-2 c =
     let d = asked c.before in
     let a = (start d).args in
-    counts-other (values_from a.rec.now a.count a.at) a.j (row_in a.p a.places a.s.now a.k) _ (held-among d) a.own (held c.before) c.if-not-own.true
+    counts-other (values_from a.rec.now a.count a.at) a.j (row_in a.p a.places a.s.now a.k) _ (held-among d) a.own (held c.before) (ap not c.if-not-own.true)
 
 table-record-requires : tie.Need-table_record-requires
 table-record-requires c κs =
@@ -80,7 +80,7 @@ returns-3 c =
     let b = start (asked e.before) in
     let a = b.args in
     let ks = values_from a.rec.now a.count a.at in
-    counts-own ks a.j (row_in a.p a.places a.s.now a.k) _ (held-among (asked e.before)) a.own (held e.before) e.if-not-own.false _
+    counts-own ks a.j (row_in a.p a.places a.s.now a.k) _ (held-among (asked e.before)) a.own (held e.before) (ap not e.if-not-own.false) _
     (c.is_among-2.ensures
     ∙ ap (λ (v : Value). among v ks)
     (c.cell_at-y.ensures.0 ∙ key-held a.p a.places a.s.now b.requires.0 a.t a.k b.requires.1 _ d.table_record.ensures _ d.key_column-column.ensures))

@@ -1,4 +1,6 @@
 -- `walks::referrer::is_searched` meets its contract. Assumes nothing.
+use mathlib.Core.Path.{ap}
+use mathlib.Core.Bool.{not}
 use Rattle.values.specs.Basic.{any}
 use Rattle.values.specs.Meaning.{text_bytes}
 use Rattle.rules.specs.Layout.{parse}
@@ -39,7 +41,7 @@ returns c =
     searched-not (text_bytes a.name) (column_of c.read_column-c.result) (column_in a.p a.places a.s.now a.t a.j) (column-is a.p a.places a.s.now b.requires.0 a.t b.requires.1 a.j b.requires.2 src r.ensures (column_of c.read_column-c.result) c.read_column-c.ensures.is)
     c.refers_to.result c.refers_to.ensures
     (any (shown (parse a.p a.places a.s.now).rows (table_in a.p a.places a.s.now a.t) a.j (column_in a.p a.places a.s.now a.t a.j)) (values_from a.rec.now a.count a.at))
-    c.if-not-refers_to.true
+    (ap not c.if-not-refers_to.true)
 
 is-any-shown-requires : tie.Need-is_any_shown-requires
 is-any-shown-requires c κs = search rules
@@ -53,7 +55,7 @@ returns-2 c =
     searched-by (text_bytes a.name) (column_of c.read_column-c.result) (column_in a.p a.places a.s.now a.t a.j) (column-is a.p a.places a.s.now b.requires.0 a.t b.requires.1 a.j b.requires.2 src r.ensures (column_of c.read_column-c.result) c.read_column-c.ensures.is)
     c.refers_to.result c.refers_to.ensures
     (any (shown (parse a.p a.places a.s.now).rows (table_in a.p a.places a.s.now a.t) a.j (column_in a.p a.places a.s.now a.t a.j)) (values_from a.rec.now a.count a.at))
-    c.if-not-refers_to.false c.is_any_shown.result c.is_any_shown.ensures
+    (ap not c.if-not-refers_to.false) c.is_any_shown.result c.is_any_shown.ensures
 
 pub is_searched_spec : {M : Type 1} → statement M
 is_searched_spec =

@@ -1,7 +1,7 @@
 -- `walks::referrer::row_references` meets its contract. The invariants: nothing is found yet, and what is left of the search from the place
 -- that is reached is all of it. Assumes nothing.
-use mathlib.Core.Path.{◌≡◌, refl, sym, ap, ◌∙◌}
-use mathlib.Core.Bool.{false, not, false≢true}
+use mathlib.Core.Path.{◌≡◌, refl, sym, ◌∙◌}
+use mathlib.Core.Bool.{false, false≢true}
 use mathlib.Core.Logic.{⊎_elim}
 use Prim.Native.Nat.{◌-◌, ◌<◌}
 use native.Mathlib.Omega.{arith}
@@ -58,8 +58,8 @@ hit c =
     let a = b.args in
     let h = c.search in
     ⊎_elim
-    (λ w. absurd (false≢true (sym c.if-not-found.false ∙ ap not (w.1 ∙ h.invariant.0))))
-    (λ w. rw w.16 (row-hit a.p a.places a.s.now (text_bytes a.name) (values_from a.rec.now a.count a.at) b.requires.0 h.t w.5.j _ _ w.10.k w.10.inv.3 w.12.taken w.10.inv.1.known _ w.13.ensures w.14.taken))
+    (λ w. absurd (false≢true (sym (w.found-is ∙ h.invariant.0) ∙ c.if-not-found.false)))
+    (λ w. rw w.k-is (row-hit a.p a.places a.s.now (text_bytes a.name) (values_from a.rec.now a.count a.at) b.requires.0 h.t w.loop-j.j _ _ w.loop-k.k w.loop-k.invariant.3 w.loop-k-test.true w.loop-k.invariant.1.known _ w.is_referring.ensures w.if-is_referring.true))
     c.search-test.branch-raw
 
 table-count-requires :
@@ -189,8 +189,8 @@ loop-again c =
     let h = d.loop-j in
     let t = d.search.t in
     ⊎_elim
-    (λ w. (w.5 ∙ w.2.inv.0, h.invariant.1, column-next a.p a.places a.s.now (text_bytes a.name) (values_from a.rec.now a.count a.at) t h.j _ _ _ w.2.inv.3 w.4.left))
-    (λ w. (w.1 ∙ h.invariant.0, h.invariant.1, column-past a.p a.places a.s.now (text_bytes a.name) (values_from a.rec.now a.count a.at) t h.j (omega (arith, h.invariant.1.counted, c.loop-j-test.true)) h.invariant.2 _ c.is_searched.ensures w.0.left))
+    (λ w. (w.found-is ∙ w.loop-k.invariant.0, h.invariant.1, column-next a.p a.places a.s.now (text_bytes a.name) (values_from a.rec.now a.count a.at) t h.j _ _ _ w.loop-k.invariant.3 w.loop-k-test.false))
+    (λ w. (w.found-is ∙ h.invariant.0, h.invariant.1, column-past a.p a.places a.s.now (text_bytes a.name) (values_from a.rec.now a.count a.at) t h.j (omega (arith, h.invariant.1.counted, c.loop-j-test.true)) h.invariant.2 _ c.is_searched.ensures w.if-is_searched.false))
     c.if-is_searched.branch-raw
 
 add-t : tie.Need-overflow_add-t invariant-loop2 decreases-loop2 invariant-loop decreases-loop invariant-search decreases-search
@@ -217,8 +217,8 @@ returns c =
     let a = b.args in
     let h = c.search in (
       ⊎_elim
-          (λ w. search-end a.p a.places a.s.now (text_bytes a.name) (values_from a.rec.now a.count a.at) h.t h.invariant.1 (omega (arith, w.0.left, c.table_count-tables.ensures, tables-count a.p a.places a.s.now)))
-          (λ w. absurd (false≢true (sym (ap not w.15) ∙ c.if-not-found.true)))
+          (λ w. search-end a.p a.places a.s.now (text_bytes a.name) (values_from a.rec.now a.count a.at) h.t h.invariant.1 (omega (arith, w.search-test.false, c.table_count-tables.ensures, tables-count a.p a.places a.s.now)))
+          (λ w. absurd (false≢true (sym c.if-not-found.true ∙ w.found-is)))
           c.search-test.branch-raw,
       b.requires.1,
       tt,

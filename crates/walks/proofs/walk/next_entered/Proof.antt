@@ -59,30 +59,30 @@ tells c =
     let T = Tells a.p a.places a.s.now b.requires.0 (text_bytes a.name) a.column (meaning a.v) (meaning a.after) b.requires.4 in
     ⊎_elim
     (λ w.
-    subst T (sym w.5)
+    subst T (sym w.i-is)
     (next-tells a.p a.places a.s.now b.requires.0 (text_bytes a.name) a.column (meaning a.v) (meaning a.after) b.requires.4 r.result r.ensures
-    (first-within (record { before = c.before; if1 = w.0 }))
-    w.1.result.now
-    w.1.ensures
-    (ordering w.2.result)
-    w.2.ensures
-    (same-is w.2.result _ refl w.4.given.1)))
+    (first-within (record { before = c.before; if-i-count = w.if-i-count }))
+    w.entry_record-rec.result.now
+    w.entry_record-rec.ensures
+    (ordering w.compare_entered.result)
+    w.compare_entered.ensures
+    (same-is w.compare_entered.result _ refl w.in-Same.is)))
     (⊎_elim
     (λ w.
-    subst T (sym w.4)
+    subst T (sym w.i-is)
     (this-tells a.p a.places a.s.now b.requires.0 (text_bytes a.name) a.column (meaning a.v) (meaning a.after) b.requires.4 r.result r.ensures
-    (first-within (record { before = c.before; if1 = w.0 }))
-    w.1.result.now
-    w.1.ensures
-    (ordering w.2.result)
-    w.2.ensures
-    (not_same w.2.result _ refl w.3.keys2)))
+    (first-within (record { before = c.before; if-i-count = w.if-i-count }))
+    w.entry_record-rec.result.now
+    w.entry_record-rec.ensures
+    (ordering w.compare_entered.result)
+    w.compare_entered.ensures
+    (not_same w.compare_entered.result _ refl w.in_default.in_default-own.keys2)))
     (λ w.
-    subst T (sym w.1)
+    subst T (sym w.i-is)
     (end-tells a.p a.places a.s.now b.requires.0 (text_bytes a.name) a.column (meaning a.v) (meaning a.after) b.requires.4 r.result r.ensures
     c.entry_count-count.result
     c.entry_count-count.ensures
-    w.0.left)))
+    w.if-i-count.false)))
     c.if-i-count.branch-raw
 
 -- ---- the needs

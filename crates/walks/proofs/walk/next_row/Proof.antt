@@ -22,7 +22,7 @@ begun : (c : tie.Joined-from-first)
     → let top = c.named_before-first.result in
     let from = c.args.from in
     ((from < top) × (c.if-from-first.i ≡ top)) ⊎ ((top ≤ from) × (c.if-from-first.i ≡ from))
-begun c = ⊎_elim (λ w. inl (w.0.taken, w.1)) (λ w. inr (w.0.left, w.1)) c.if-from-first.branch-raw
+begun c = ⊎_elim (λ w. inl (w.if-from-first.true, w.i-is)) (λ w. inr (w.if-from-first.false, w.i-is)) c.if-from-first.branch-raw
 
 -- it is one of a row
 within : (c : tie.Else-count-i)
