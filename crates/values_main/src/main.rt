@@ -1,91 +1,92 @@
 // Reads values from standard input as a record has them and shows of each: how it is printed, the bytes of its cell, how it compares with the
 // value before it, and whether its cell, read back, is it again. What proofs say of every value is seen here at the edges.
 #![tactic(auto)]
+
 ghost use Rattle.values.specs.Meaning.{ProperCell};
 
 use forms::read::ReadCell;
 use forms::{print, read};
-use libc::{STDIN_FILENO, STDOUT_FILENO};
+use std::io;
+use std::io::{Read, Write};
 use values::value::{Cell, Order, Value};
-use values::{bytes, cell, value};
+use values::{cell, value};
 
 // A space and a word.
-fn say(word: &[u8]) {
-    io::write_all(STDOUT_FILENO, b" ");
-    io::write_all(STDOUT_FILENO, word);
+fn say<W: Write>(out: &mut W, word: &str) -> io::Result<()> {
+    write!(out, " {word}")
 }
 
-fn show_order(o: Order) {
+fn show_order<W: Write>(out: &mut W, o: Order) -> io::Result<()> {
     match o {
-        Order::Less => say(b"after"),
-        Order::Same => say(b"equal"),
-        Order::More => say(b"before"),
+        Order::Less => say(out, "after"),
+        Order::Same => say(out, "equal"),
+        Order::More => say(out, "before"),
     }
 }
 
 // The value as a row line prints it.
-fn show_value(c: Cell)
+fn show_value<W: Write>(out: &mut W, c: Cell) -> io::Result<()>
     requires { ProperCell c }
 {
     let mut line = [0u8; 50];
     let n = print::print_value(&mut line, c);
-    io::write_all(STDOUT_FILENO, &line[0..n]);
+    out.write_all(&line[0..n])
 }
 
 // Two digits for each byte.
-fn show_bytes(s: &[u8]) {
-    say(b"");
-    let mut i = 0;
-    while i < s.len() {
-        io::print_hex(STDOUT_FILENO, bytes::wide(s[i]), 2);
-        i += 1;
+fn show_bytes<W: Write>(out: &mut W, s: &[u8]) -> io::Result<()> {
+    say(out, "")?;
+    for b in s {
+        write!(out, "{b:02x}")?;
     }
+    Ok(())
 }
 
 // The bytes of its cell, and whether they are read back as the value.
-fn show_cell(c: Cell)
+fn show_cell<W: Write>(out: &mut W, c: Cell) -> io::Result<()>
     requires { ProperCell c }
 {
     let mut own = [0u8; 26];
     cell::write_cell(&mut own, c);
-    show_bytes(&own);
+    show_bytes(out, &own)?;
     let back = cell::read_cell(&own);
     let v = c.value;
     let w = back.value;
-    show_order(value::compare(v, w));
+    show_order(out, value::compare(v, w))?;
     if cell::is_cell(&own) {
-        say(b"cell");
+        say(out, "cell")?;
     }
     if value::is_undefined(v) {
-        say(b"undefined");
+        say(out, "undefined")?;
     }
+    Ok(())
 }
 
-fn main() {
-    let mut buffer = [0u8; 4096];
-    let got = libc::read(STDIN_FILENO, &mut buffer);
-    let n = io::count(got, &buffer);
-    let s = &buffer[0..n];
+// The values that stand in bytes one behind another.
+fn show_all<W: Write>(out: &mut W, s: &[u8]) -> io::Result<()> {
     let mut before = Cell { value: Value::Null };
     let mut at = 0;
-    while at < n {
+    while at < s.len() {
         match read::value_at(s, at) {
             ReadCell::Got { cell, next } => {
-                show_value(cell);
-                let v = before.value;
-                let w = cell.value;
-                show_order(value::compare(v, w));
-                show_cell(cell);
-                io::write_all(STDOUT_FILENO, b"\n");
+                show_value(out, cell)?;
+                show_order(out, value::compare(before.value, cell.value))?;
+                show_cell(out, cell)?;
+                writeln!(out)?;
                 before = cell;
                 at = next;
             }
             ReadCell::Broken(x) => {
-                io::write_all(STDOUT_FILENO, b"broken at ");
-                io::print_decimal(STDOUT_FILENO, x as u64);
-                io::write_all(STDOUT_FILENO, b"\n");
-                at = n;
+                writeln!(out, "broken at {x}")?;
+                at = s.len();
             }
         }
     }
+    Ok(())
+}
+
+fn main(rt: HostRuntime) {
+    let mut buffer = [0u8; 4096];
+    let n = rt.stdin().read(&mut buffer).unwrap_or(0);
+    let _shown = show_all(&mut rt.stdout(), &buffer[0..n]);
 }

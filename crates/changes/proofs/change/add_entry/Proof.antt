@@ -14,13 +14,12 @@ use Rattle.changes.proofs.change.add_entry.Tie as tie
 -- the place that was opened lies inside
 room : (c : tie.After-slice_known-2-1) → let w = c.before.before.before.before.before in w.entries_at-from.result + w.entry_rank-i.result * w.entry_width-width.result + w.entry_width-width.result ≤ length c.open_counted.new.s
 room c =
-    let b = c.before in
-    let a = b.args in
+    let a = c.args in
     let i = c.entry_rank-i in
     let f = c.entries_at-from in
     let w = c.entry_width-width in
     let o = c.open_counted in
-    entry-room a.p a.places a.s.now b.requires.0 (entry_of a.name a.column a.v a.key) f.result w.result (a.p.entries * a.places) i.result f.ensures w.ensures refl i.ensures b.requires.2 o.new.0 o.ensures
+    entry-room a.p a.places a.s.now c.requires.0 (entry_of a.name a.column a.v a.key) f.result w.result (a.p.entries * a.places) i.result f.ensures w.ensures refl i.ensures c.requires.2 o.new.s o.ensures
 
 entry-rank-requires : tie.Need-entry_rank-i-requires
 entry-rank-requires c κs = search rules
@@ -33,18 +32,16 @@ entry-width-requires c κs = search rules
 
 mul_most : tie.Need-overflow_mul-most
 mul_most c =
-    let b = c.before in
-    let a = b.args in
-    omega (arith, entries-most a.p b.requires.0.coded.known a.places b.requires.0.places)
+    let a = c.args in
+    omega (arith, entries-most a.p c.requires.0.coded.known a.places c.requires.0.places)
 
 open-counted-requires : tie.Need-open_counted-requires
 open-counted-requires c κs =
-    let b = c.before in
-    let a = b.args in
+    let a = c.args in
     let i = c.entry_rank-i in
     let f = c.entries_at-from in
     let w = c.entry_width-width in
-    entry-grows a.p a.places a.s.now b.requires.0 (entry_of a.name a.column a.v a.key) f.result w.result (a.p.entries * a.places) i.result f.ensures w.ensures refl i.ensures b.requires.2
+    entry-grows a.p a.places a.s.now c.requires.0 (entry_of a.name a.column a.v a.key) f.result w.result (a.p.entries * a.places) i.result f.ensures w.ensures refl i.ensures c.requires.2
 
 mul-a : tie.Need-overflow_mul-a
 mul-a c = omega (arith, room c)
@@ -66,27 +63,25 @@ part-write-entry-end c = omega (arith, room c)
 
 write-entry-requires : tie.Need-write_entry-requires
 write-entry-requires c κs =
-    let b = c.before in
-    let a = b.args in
+    let a = c.args in
     let i = c.entry_rank-i in
     let f = c.entries_at-from in
     let w = c.entry_width-width in
     let o = c.open_counted in
-    (place-wide a.p a.places a.s.now b.requires.0 (entry_of a.name a.column a.v a.key) f.result w.result (a.p.entries * a.places) i.result f.ensures w.ensures refl i.ensures b.requires.2 o.new.0 o.ensures, b.requires.1)
+    (place-wide a.p a.places a.s.now c.requires.0 (entry_of a.name a.column a.v a.key) f.result w.result (a.p.entries * a.places) i.result f.ensures w.ensures refl i.ensures c.requires.2 o.new.s o.ensures, c.requires.1)
 
 same_length : tie.Need-shape_of-s
 same_length c = search rules
 
 returns : tie.Need-returns
 returns c =
-    let b = c.before in
-    let a = b.args in
+    let a = c.args in
     let i = c.entry_rank-i in
     let f = c.entries_at-from in
     let w = c.entry_width-width in
     let o = c.open_counted in
     let y = c.write_entry in
-    entry-placed a.p a.places a.s.now b.requires.0 (entry_of a.name a.column a.v a.key) f.result w.result (a.p.entries * a.places) i.result f.ensures w.ensures refl i.ensures b.requires.2 o.new.0 o.ensures y.new.0 y.ensures (ap length y.ensures ∙ entry-long a.name a.column a.v a.key b.requires.1)
+    entry-placed a.p a.places a.s.now c.requires.0 (entry_of a.name a.column a.v a.key) f.result w.result (a.p.entries * a.places) i.result f.ensures w.ensures refl i.ensures c.requires.2 o.new.s o.ensures y.new.part y.ensures (ap length y.ensures ∙ entry-long a.name a.column a.v a.key c.requires.1)
 
 pub add_entry_spec : {M : Type 1} → statement M
 add_entry_spec =

@@ -16,33 +16,29 @@ enum_told c = search rules
 
 remove-entry-requires : tie.Need-remove_entry-requires
 remove-entry-requires c κs =
-    let b = c.before.before.before.before in
-    let a = b.args in
-    (b.requires.0, b.requires.1, b.requires.3 (not_same c.compare.result _ c.compare.ensures c.in_default.in_default-own.keys2))
+    let a = c.args in
+    (c.requires.0, c.requires.1, c.requires.3 (not_same c.compare.result _ c.compare.ensures c.in_default.in_default-own.keys2))
 
 add-entry-requires : tie.Need-add_entry-requires
 add-entry-requires c κs =
-    let b = c.before.before.before.before.before.before.before.before in
-    let a = b.args in
+    let a = c.args in
     let o = c.remove_entry in
-    (gone-entered a.p a.places a.s.now b.requires.0 (entry_of a.name a.column a.old a.key) (b.requires.3 (not_same c.compare.result _ c.compare.ensures c.in_default.in_default-own.keys2)) o.new.0 o.ensures, b.requires.2, gone-room a.p a.places a.s.now b.requires.0 (entry_of a.name a.column a.old a.key) (b.requires.3 (not_same c.compare.result _ c.compare.ensures c.in_default.in_default-own.keys2)) o.new.0 o.ensures)
+    (gone-entered a.p a.places a.s.now c.requires.0 (entry_of a.name a.column a.old a.key) (c.requires.3 (not_same c.compare.result _ c.compare.ensures c.in_default.in_default-own.keys2)) o.new.s o.ensures, c.requires.2, gone-room a.p a.places a.s.now c.requires.0 (entry_of a.name a.column a.old a.key) (c.requires.3 (not_same c.compare.result _ c.compare.ensures c.in_default.in_default-own.keys2)) o.new.s o.ensures)
 
 returns : tie.Need-returns-in-Same
 returns c =
-    let b = c.before.before.before in
-    let a = b.args in
-    exchange-none a.p a.places a.s.now b.requires.0 (same (meaning a.old) (meaning a.new)) _ (same-is c.compare.result _ c.compare.ensures c.in-Same.is)
+    let a = c.args in
+    exchange-none a.p a.places a.s.now c.requires.0 (same (meaning a.old) (meaning a.new)) _ (same-is c.compare.result _ c.compare.ensures c.in-Same.is)
 
 same_length : tie.Need-shape_of-s
 same_length c = search rules
 
 returns-2 : tie.Need-returns-in_default
 returns-2 c =
-    let b = c.before.before.before.before.before.before.before.before.before.before.before in
-    let a = b.args in
+    let a = c.args in
     let o = c.remove_entry in
     let y = c.add_entry in
-    exchange-done a.p a.places a.s.now b.requires.0 (entry_of a.name a.column a.old a.key) (b.requires.3 (not_same c.compare.result _ c.compare.ensures c.in_default.in_default-own.keys2)) o.new.0 o.ensures (entry_of a.name a.column a.new a.key) (same (meaning a.old) (meaning a.new)) (not_same c.compare.result _ c.compare.ensures c.in_default.in_default-own.keys2) y.new.0 y.ensures
+    exchange-done a.p a.places a.s.now c.requires.0 (entry_of a.name a.column a.old a.key) (c.requires.3 (not_same c.compare.result _ c.compare.ensures c.in_default.in_default-own.keys2)) o.new.s o.ensures (entry_of a.name a.column a.new a.key) (same (meaning a.old) (meaning a.new)) (not_same c.compare.result _ c.compare.ensures c.in_default.in_default-own.keys2) y.new.s y.ensures
 
 pub exchange_spec : {M : Type 1} → statement M
 exchange_spec =

@@ -20,31 +20,28 @@ entry-width-requires c κs = search rules
 
 mul_most : tie.Need-overflow_mul-most
 mul_most c =
-    let b = c.before in
-    let a = b.args in
-    omega (arith, entries-most a.p b.requires.0.coded.known a.places b.requires.0.places)
+    let a = c.args in
+    omega (arith, entries-most a.p c.requires.0.coded.known a.places c.requires.0.places)
 
 close-counted-requires : tie.Need-close_counted-requires
 close-counted-requires c κs =
-    let b = c.before in
-    let a = b.args in
+    let a = c.args in
     let i = c.entry_rank-i in
     let f = c.entries_at-from in
     let w = c.entry_width-width in
-    entry-shrinks a.p a.places a.s.now b.requires.0 (entry_of a.name a.column a.v a.key) f.result w.result (a.p.entries * a.places) i.result f.ensures w.ensures refl i.ensures b.requires.2
+    entry-shrinks a.p a.places a.s.now c.requires.0 (entry_of a.name a.column a.v a.key) f.result w.result (a.p.entries * a.places) i.result f.ensures w.ensures refl i.ensures c.requires.2
 
 same_length : tie.Need-shape_of-s
 same_length c = search rules
 
 returns : tie.Need-returns
 returns c =
-    let b = c.before in
-    let a = b.args in
+    let a = c.args in
     let i = c.entry_rank-i in
     let f = c.entries_at-from in
     let w = c.entry_width-width in
     let o = c.close_counted in
-    entry_gone a.p a.places a.s.now b.requires.0 (entry_of a.name a.column a.v a.key) f.result w.result (a.p.entries * a.places) i.result f.ensures w.ensures refl i.ensures b.requires.2 o.new.0 o.ensures
+    entry_gone a.p a.places a.s.now c.requires.0 (entry_of a.name a.column a.v a.key) f.result w.result (a.p.entries * a.places) i.result f.ensures w.ensures refl i.ensures c.requires.2 o.new.s o.ensures
 
 pub remove_entry_spec : {M : Type 1} → statement M
 remove_entry_spec =

@@ -2,9 +2,10 @@
 use mathlib.Core.Path.{◌∙◌}
 use Prim.Native.Nat.{◌-◌}
 use native.Mathlib.Omega.{arith}
-use Rattle.changes.proofs.Changing.{falls, byte_fits, next_fits, by_arm, TableOf, Begun, record-asked, record-least, record-count, begun}
+use Rattle.changes.proofs.Changing.{falls, byte_fits, next_fits, TableOf, Begun, record-asked, record-least, record-count, begun}
 use Rattle.changes.proofs.RowRemoved.{RemoveTurn, remove_key, remove-start, remove-shrinks, remove-length, remove-done, turn_byte, turn-table, turn-row, turn-cell, turn-read, turn-past, turn-requires, turn-next}
 use Rattle.changes.proofs.change.remove_row.Statement.{statement}
+use Rattle.changes.proofs.change.remove_row.Lts.{then-c, else-c}
 use Rattle.changes.proofs.change.remove_row.Tie as tie
 
 abbrev invariant-loop : tie.invariant-loop-j
@@ -19,83 +20,82 @@ table c = record { held = c.requires.0; known = c.requires.1.known }
 
 -- its name and key column, read
 opened : (c : tie.After-key_column-column invariant-loop decreases-loop)
-    → let a = c.before.before.args in
-    Begun a.p a.places a.s.now a.t c.read_name.result c.key_column-column.result
+    → let a = c.args in
+    Begun a.p a.places a.s.now a.t c.read_name-name.result c.key_column-column.result
 opened c =
-    begun (table c.before.before) c.table-record.ensures
-    c.read_name.ensures c.table_record-2.ensures c.key_column-column.ensures
+    begun (table c.before.before.before.before.before) c.table_record.ensures
+    c.read_name-name.ensures c.table_record-2.ensures c.key_column-column.ensures
 
 table-record-requires : tie.Need-table_record-requires invariant-loop decreases-loop
 table-record-requires c κs = record-asked (table c.before)
 
 read-name-requires : tie.Need-read_name-name-requires invariant-loop decreases-loop
-read-name-requires c κs = omega (arith, record-least (table c.before) c.table_record.ensures)
+read-name-requires c κs = omega (arith, record-least (table c.before.before) c.table_record.ensures)
 
 table-record-requires-2 : tie.Need-table_record-requires-2 invariant-loop decreases-loop
-table-record-requires-2 c κs = record-asked (table c.before.before)
+table-record-requires-2 c κs = record-asked (table c.before.before.before)
 
 key-column-requires : tie.Need-key_column-column-requires invariant-loop decreases-loop
-key-column-requires c κs = omega (arith, record-least (table c.before.before) c.table_record-2.ensures)
+key-column-requires c κs = omega (arith, record-least (table c.before.before.before.before) c.table_record-2.ensures)
 
 table-record-requires-3 : tie.Need-table_record-requires-3 invariant-loop decreases-loop
-table-record-requires-3 c κs = record-asked (table c.before.before.before)
+table-record-requires-3 c κs = record-asked (table c.before.before.before.before.before)
 
 column-count-requires : tie.Need-column_count-count-requires invariant-loop decreases-loop
-column-count-requires c κs = record-least (table c.before.before.before) c.table_record-3.ensures
+column-count-requires c κs = record-least (table c.before.before.before.before.before.before) c.table_record-3.ensures
 
 cell-at-requires : tie.Need-cell_at-k-requires invariant-loop decreases-loop
-cell-at-requires c κs =
-    remove_key c.before.before.before.before.requires.0
-    c.before.before.before.before.requires.1 (opened c.before.before.before.before)
+cell-at-requires c κs = remove_key c.requires.0 c.requires.1 (opened c.before.before)
 
 loop-holds : tie.Need-loop-j-init invariant-loop decreases-loop
 loop-holds c =
-    remove-start c.before.before.before.before.requires.0
-    c.before.before.before.before.requires.1
-    (opened c.before.before.before.before.before)
-    (record-count (table c.before.before.before.before) c.table-record3.ensures c.column-count.ensures)
+    remove-start c.requires.0 c.requires.1 (opened c.before.before.before)
+    (record-count (table c.before.before.before.before.before.before.before.before) c.table_record-3.ensures c.column_count-count.ensures)
     c.cell_at-k.result c.cell_at-k.ensures
 
 table-record-requires-4 : tie.Need-table_record-requires-in-loop-j invariant-loop decreases-loop
-table-record-requires-4 c κs = turn-table c.loop.invariant c.loop-test.true
+table-record-requires-4 c κs = turn-table c.loop-j.invariant c.loop-j-test.true
 
 read-column-requires : tie.Need-read_column-c-requires invariant-loop decreases-loop
-read-column-requires c κs = turn-read c.loop.invariant c.loop-test.true c.table_record-in-loop-j.ensures
+read-column-requires c κs = turn-read c.loop-j.invariant c.loop-j-test.true c.table_record-in-loop-j.ensures
 
 row-record-requires : tie.Need-row_record-requires invariant-loop decreases-loop
-row-record-requires c κs = turn-row c.loop.invariant c.loop-test.true
+row-record-requires c κs = turn-row c.loop-j.invariant c.loop-j-test.true
 
 cell-in-requires : tie.Need-cell_in-x-requires invariant-loop decreases-loop
 cell-in-requires c κs =
-    turn-cell c.loop.invariant
-    c.loop-test.true c.row_record.ensures
+    turn-cell c.loop-j.invariant
+    c.loop-j-test.true c.row_record.ensures
 
 cast-remove-entry : tie.Need-overflow_cast-j invariant-loop decreases-loop
 cast-remove-entry c =
     byte_fits
-    (turn_byte c.loop.invariant c.loop-test.true)
+    (turn_byte c.loop-j.invariant c.loop-j-test.true)
 
 remove-entry-requires : tie.Need-remove_entry-requires invariant-loop decreases-loop
 remove-entry-requires c κs =
-    turn-requires c.loop.invariant
-    c.loop-test.true
-    c.table-record4.ensures c.read-column.ensures
-    c.if1.true c.row_record.ensures
+    turn-requires c.loop-j.invariant
+    c.loop-j-test.true
+    c.table_record-in-loop-j.ensures c.read_column-c.ensures
+    c.if-c.true c.row_record.ensures
     c.cell_in-x.result c.cell_in-x.ensures
 
 add-j : tie.Need-overflow_add-j invariant-loop decreases-loop
-add-j c = next_fits (turn_byte c.loop.invariant c.loop-test.true)
+add-j c = next_fits (turn_byte c.loop-j.invariant c.loop-j-test.true)
 
 loop-less : tie.Need-loop-j-smaller invariant-loop decreases-loop
-loop-less c = falls c.loop-test.true
+loop-less c = falls c.loop-j-test.true
 
 loop-again : tie.Need-loop-j-preserved invariant-loop decreases-loop
 loop-again c =
-    by_arm c.if-c.branch-raw
-    (λ w. turn-next c.loop.invariant c.loop-test.true
-    c.table_record-in-loop-j.ensures c.read_column-c.ensures w.0.taken w.2.ensures w.3.result w.3.ensures w.5.ensures w.8)
-    (λ w. turn-past c.loop.invariant c.loop-test.true
-    c.table_record-in-loop-j.ensures c.read_column-c.ensures w.0.left w.1)
+    elim c.if-c.branch [
+      | then-c w ↦
+          turn-next c.loop-j.invariant c.loop-j-test.true
+          c.table_record-in-loop-j.ensures c.read_column-c.ensures w.if-c.true w.row_record.ensures w.cell_in-x.result w.cell_in-x.ensures w.remove_entry.ensures w.s-is
+      | else-c w ↦
+          turn-past c.loop-j.invariant c.loop-j-test.true
+          c.table_record-in-loop-j.ensures c.read_column-c.ensures w.if-c.false w.s-is
+    ]
 
 rows-at-requires : tie.Need-rows_at-requires invariant-loop decreases-loop
 rows-at-requires c κs = c.loop-j.invariant.held.coded.known
@@ -109,7 +109,7 @@ close-counted-requires c κs =
     c.row_width.ensures
 
 same_length : tie.Need-shape_of-s invariant-loop decreases-loop
-same_length c = c.close_counted.auto.0 ∙ remove-length c.loop-j.invariant
+same_length c = c.close_counted.auto.s ∙ remove-length c.loop-j.invariant
 
 returns : tie.Need-returns invariant-loop decreases-loop
 returns c =

@@ -32,10 +32,9 @@ part-write-cell-start c = search rules
 
 part-write-cell-end : tie.Need-slice_bounds-write_cell-end
 part-write-cell-end c =
-    let b = c.before.before.before.before.before in
-    let a = b.args in
+    let a = c.args in
     let y = c.write_name in
-    omega (arith, numbered-long a.part.now y.new.0 a.name a.column a.v a.key b.requires.1 b.requires.0 y.ensures)
+    omega (arith, numbered-long a.part.now y.new.out a.name a.column a.v a.key c.requires.1 c.requires.0 y.ensures)
 
 write-cell-requires : tie.Need-write_cell-requires
 write-cell-requires c κs = search rules
@@ -48,11 +47,10 @@ part-write-cell-start-2 c = search rules
 
 part-write-cell-end-2 : tie.Need-slice_bounds-write_cell-end-2
 part-write-cell-end-2 c =
-    let b = c.before.before.before.before.before.before.before.before.before in
-    let a = b.args in
+    let a = c.args in
     let y = c.write_name in
     let v = c.write_cell in
-    omega (arith, valued-long a.part.now y.new.0 a.name a.column a.v a.key b.requires.1 b.requires.0 y.ensures v.new.0 v.ensures)
+    omega (arith, valued-long a.part.now y.new.out a.name a.column a.v a.key c.requires.1 c.requires.0 y.ensures v.new.out v.ensures)
 
 write-cell-requires-2 : tie.Need-write_cell-requires-2
 write-cell-requires-2 c κs = search rules
@@ -60,18 +58,16 @@ write-cell-requires-2 c κs = search rules
 -- all of it
 written : (c : tie.After-slice_known-4-1) → let a = c.args in put_mid 52 26 (put_mid 26 26 (set (put_mid 0 25 a.part.now c.write_name.new.out) 25 a.column) c.write_cell.new.out) c.write_cell-2.new.out ≡ entry_bytes (entry_of a.name a.column a.v a.key)
 written c =
-    let b = c.before.before.before.before.before.before.before.before.before.before.before.before.before in
-    let a = b.args in
+    let a = c.args in
     let y = c.write_name in
     let v = c.write_cell in
     let k = c.write_cell-2 in
-    entry-written a.part.now y.new.0 a.name a.column a.v a.key b.requires.1 b.requires.0 y.ensures v.new.0 v.ensures k.new.0 k.ensures
+    entry-written a.part.now y.new.out a.name a.column a.v a.key c.requires.1 c.requires.0 y.ensures v.new.out v.ensures k.new.out k.ensures
 
 same_length : tie.Need-shape_of-part
 same_length c =
-    let b = c.before.before.before.before.before.before.before.before.before.before.before.before.before in
-    let a = b.args in
-    ap length (written c) ∙ entry-long a.name a.column a.v a.key b.requires.1 ∙ sym b.requires.0
+    let a = c.args in
+    ap length (written c) ∙ entry-long a.name a.column a.v a.key c.requires.1 ∙ sym c.requires.0
 
 returns : tie.Need-returns
 returns c = written c

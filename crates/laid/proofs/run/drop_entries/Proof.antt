@@ -21,82 +21,65 @@ entries-at-requires c κs = search rules
 
 sub-named-before : tie.Need-slice_bounds-named_before-count
 sub-named-before c =
-    let f = c in
-    let b = f in
-    let w = f.entry_width-width in
-    area-start _ _ _ _ _ b.requires.0 f.entries_at-from.result w.result _ f.entries_at-from.ensures w.ensures refl
+    let w = c.entry_width-width in
+    area-start _ _ _ _ _ c.requires.0 c.entries_at-from.result w.result _ c.entries_at-from.ensures w.ensures refl
 
 part-named-before-start : tie.Need-slice_bounds-named_before-start
 part-named-before-start c =
-    let f = c in
-    let b = f in
-    let w = f.entry_width-width in
-    area-start _ _ _ _ _ b.requires.0 f.entries_at-from.result w.result _ f.entries_at-from.ensures w.ensures refl
+    let w = c.entry_width-width in
+    area-start _ _ _ _ _ c.requires.0 c.entries_at-from.result w.result _ c.entries_at-from.ensures w.ensures refl
 
 part-named-before-end : tie.Need-slice_bounds-named_before-end
 part-named-before-end c = search rules
 
 named-before-requires : tie.Need-named_before-i-requires
 named-before-requires c κs =
-    let f = c in
-    let b = f in
-    let w = f.entry_width-width in
-    let k = f.entry_count-count in
-    ((omega (arith, w.ensures, name-within b.args.p Entries), b.requires.1), run-searched _ _ _ _ _ b.requires.0 f.entries_at-from.result w.result _ f.entries_at-from.ensures w.ensures refl k.result k.ensures)
+    let w = c.entry_width-width in
+    let k = c.entry_count-count in
+    ((omega (arith, w.ensures, name-within c.args.p Entries), c.requires.1), run-searched _ _ _ _ _ c.requires.0 c.entries_at-from.result w.result _ c.entries_at-from.ensures w.ensures refl k.result k.ensures)
 
 sub-run-from : tie.Need-slice_bounds-run_from-count
 sub-run-from c =
-    let f = c in
-    let b = f in
-    let w = f.entry_width-width in
-    area-start _ _ _ _ _ b.requires.0 f.entries_at-from.result w.result _ f.entries_at-from.ensures w.ensures refl
+    let w = c.entry_width-width in
+    area-start _ _ _ _ _ c.requires.0 c.entries_at-from.result w.result _ c.entries_at-from.ensures w.ensures refl
 
 part-run-from-start : tie.Need-slice_bounds-run_from-start
 part-run-from-start c =
-    let f = c in
-    let b = f in
-    let w = f.entry_width-width in
-    area-start _ _ _ _ _ b.requires.0 f.entries_at-from.result w.result _ f.entries_at-from.ensures w.ensures refl
+    let w = c.entry_width-width in
+    area-start _ _ _ _ _ c.requires.0 c.entries_at-from.result w.result _ c.entries_at-from.ensures w.ensures refl
 
 part-run-from-end : tie.Need-slice_bounds-run_from-end
 part-run-from-end c = search rules
 
 run-from-requires : tie.Need-run_from-n-requires
 run-from-requires c κs =
-    let f = c in
-    let b = f in
-    let w = f.entry_width-width in
-    let k = f.entry_count-count in
+    let w = c.entry_width-width in
+    let k = c.entry_count-count in
     let n = c.named_before-i in
-    (omega (arith, w.ensures, name-within b.args.p Entries), run_inside _ _ _ _ _ b.requires.0 f.entries_at-from.result w.result _ f.entries_at-from.ensures w.ensures refl k.result k.ensures, run-place _ _ _ _ _ b.requires.0 f.entries_at-from.result w.result _ f.entries_at-from.ensures w.ensures refl k.result k.ensures n.result n.ensures, b.requires.1)
+    (omega (arith, w.ensures, name-within c.args.p Entries), run_inside _ _ _ _ _ c.requires.0 c.entries_at-from.result w.result _ c.entries_at-from.ensures w.ensures refl k.result k.ensures, run-place _ _ _ _ _ c.requires.0 c.entries_at-from.result w.result _ c.entries_at-from.ensures w.ensures refl k.result k.ensures n.result n.ensures, c.requires.1)
 
 mul-close-counted : tie.Need-overflow_mul-p
 mul-close-counted c =
-    let b = c in
-    omega (arith, entries-most _ b.requires.0.coded.known _ b.requires.0.laid.fits.places)
+    omega (arith, entries-most _ c.requires.0.coded.known _ c.requires.0.laid.fits.places)
 
 close-counted-requires : tie.Need-close_counted-requires
 close-counted-requires c κs =
-    let f = c in
-    let b = f in
-    let w = f.entry_width-width in
-    let k = f.entry_count-count in
+    let w = c.entry_width-width in
+    let k = c.entry_count-count in
     let n = c.named_before-i in
     let l = c.run_from-n in
-    run-shrinks _ _ _ _ _ b.requires.0 f.entries_at-from.result w.result _ f.entries_at-from.ensures w.ensures refl k.result k.ensures n.result n.ensures l.result l.ensures
+    run-shrinks _ _ _ _ _ c.requires.0 c.entries_at-from.result w.result _ c.entries_at-from.ensures w.ensures refl k.result k.ensures n.result n.ensures l.result l.ensures
 
 same_length : tie.Need-shape_of-s
 same_length c = search rules
 
 returns : tie.Need-returns
 returns c =
-    let f = c in
-    let b = f in
-    let w = f.entry_width-width in
-    let k = f.entry_count-count in
+    let w = c.entry_width-width in
+    let k = c.entry_count-count in
     let n = c.named_before-i in
     let l = c.run_from-n in
-    run-gone _ _ _ _ _ b.requires.0 f.entries_at-from.result w.result _ f.entries_at-from.ensures w.ensures refl k.result k.ensures n.result n.ensures l.result l.ensures _ c.close_counted.ensures
+    run-gone _ _ _ _ _ c.requires.0 c.entries_at-from.result w.result _ c.entries_at-from.ensures w.ensures refl k.result k.ensures n.result n.ensures l.result l.ensures _ c.close_counted.ensures
 
 pub drop_entries_spec : {M : Type 1} → statement M
 drop_entries_spec =
