@@ -1,9 +1,11 @@
 // Tests lent stores for soundness: a list from standard input has one sound store and then cases, each some changed bytes and the verdict that it
 // must get. Shows a line for each case whose verdict is another, and at the end how many were sound, how many not, and how many were wrong.
 #![tactic(auto)]
+
 use areas::area;
-use libc::{STDIN_FILENO, STDOUT_FILENO};
 use sound::soundness;
+use std::io;
+use std::io::{Read, Write};
 use values::bytes;
 
 // The number in the four bytes at a position, 0 where they run past the end.
@@ -38,10 +40,8 @@ fn change(s: &mut [u8], list: &[u8], at: usize, count: usize) {
 }
 
 // A word and a number.
-fn say(word: &[u8], n: u64) {
-    io::write_all(STDOUT_FILENO, word);
-    io::print_decimal(STDOUT_FILENO, n);
-    io::write_all(STDOUT_FILENO, b"\n");
+fn say<W: Write>(out: &mut W, word: &str, n: u64) -> io::Result<()> {
+    writeln!(out, "{word} {n}")
 }
 
 #[derive(Clone, Copy)]
@@ -52,11 +52,17 @@ struct Tally {
 }
 
 // The verdict on one case, counted.
-fn judged(s: &[u8], expected: bool, number: u64, t: Tally) -> Tally {
+fn judged<W: Write>(
+    out: &mut W,
+    s: &[u8],
+    expected: bool,
+    number: u64,
+    t: Tally,
+) -> io::Result<Tally> {
     let found = soundness::is_sound(s);
     let mut next = t;
     if found != expected {
-        say(b"wrong verdict on case ", number);
+        say(out, "wrong verdict on case", number)?;
         if t.wrong < 1000000 {
             next.wrong = t.wrong + 1;
         }
@@ -70,7 +76,7 @@ fn judged(s: &[u8], expected: bool, number: u64, t: Tally) -> Tally {
             next.unsound = t.unsound + 1;
         }
     }
-    next
+    Ok(next)
 }
 
 // One case: the store of a list with the changes at a position.
@@ -88,7 +94,7 @@ fn spoil(s: &mut [u8], list: &[u8], at: usize, count: usize) {
 }
 
 // All cases of a list, its store made anew for each in a slice of its length.
-fn all_cases(list: &[u8], s: &mut [u8]) -> Tally {
+fn all_cases<W: Write>(out: &mut W, list: &[u8], s: &mut [u8]) -> io::Result<Tally> {
     let mut t = Tally {
         sound: 0,
         unsound: 0,
@@ -96,40 +102,44 @@ fn all_cases(list: &[u8], s: &mut [u8]) -> Tally {
     };
     let n = s.len();
     if 65536 < n {
-        return t;
+        return Ok(t);
     }
     let mut at = 4 + n;
     let mut number: u64 = 0;
     while at < list.len() {
         let count = four(list, at);
         if 65536 < count {
-            return t;
+            return Ok(t);
         }
         let end = at + 4 + 5 * count;
         if list.len() <= end {
-            return t;
+            return Ok(t);
         }
         spoil(s, list, at + 4, count);
-        t = judged(s, list[end] == 1, number, t);
+        t = judged(out, s, list[end] == 1, number, t)?;
         if number < 1000000 {
             number += 1;
         }
         at = end + 1;
     }
-    t
+    Ok(t)
 }
 
-fn main() {
-    let mut space = io::large_buffer();
-    let n = io::read_full(STDIN_FILENO, &mut space);
-    let list = &space[0..n];
+// The cases of a list, and how many were what.
+fn run<W: Write>(out: &mut W, list: &[u8]) -> io::Result<()> {
     let size = four(list, 0);
     if 16384 < size {
-        return;
+        return Ok(());
     }
     let mut room = [0u8; 16384];
-    let t = all_cases(list, &mut room[0..size]);
-    say(b"sound ", t.sound);
-    say(b"not sound ", t.unsound);
-    say(b"wrong verdicts ", t.wrong);
+    let t = all_cases(out, list, &mut room[0..size])?;
+    say(out, "sound", t.sound)?;
+    say(out, "not sound", t.unsound)?;
+    say(out, "wrong verdicts", t.wrong)
+}
+
+fn main(rt: HostRuntime) {
+    let mut list = Vec::new(rt.alloc());
+    let _read = rt.stdin().take(65536).read_to_end(&mut list);
+    let _told = run(&mut rt.stdout(), &list);
 }

@@ -1,5 +1,6 @@
 // The store: schema.rs and local.rs over a lent buffer.
 #![tactic(auto)]
+
 pub mod schema; // schema.rs: what is wrong with a schema, and with a row
 pub mod local; // local.rs: the catalog
 pub mod reads; // local.rs: get, lookup, scan

@@ -3,7 +3,6 @@ use mathlib.Core.Path.{◌≡◌, refl, sym, ◌∙◌}
 use mathlib.Core.Option.{none, some}
 use native.Mathlib.Omega.{arith}
 use borrow.Author.Rules.{rules}
-use borrow.Author.Tests.{not-true, not-false}
 use Rattle.values.specs.Meaning.{text_bytes}
 use Rattle.rules.specs.State.{is_named}
 use Rattle.rules.specs.Layout.{Schemas, read_table, parse}
@@ -21,13 +20,12 @@ use Rattle.store.proofs.local.create_table.Tie as tie
 
 -- where the function began
 abbrev start : tie.After-get_table → tie.Start
-start c = c.before
+start c = c.before.before.before.before
 
 -- the name was read, and a table has it
 known : (c : tie.In-At) →
-    let g = c.before in
-    let a = (start g).args in
-    some c.in-At.field-0 ≡ place_of (is_named (text_bytes g.read_name.result)) (parse a.p a.places a.s.now).tables
+    let a = (start c.before).args in
+    some c.in-At.field-0 ≡ place_of (is_named (text_bytes c.read_name-name.result)) (parse a.p a.places a.s.now).tables
 known c = answer-is c.in-At.is c.get_table.ensures
 
 -- or none has
@@ -35,9 +33,8 @@ abbrev searched : tie.Else-not-is_accepted → tie.In_default
 searched c = c.before.before.before
 
 missing : (c : tie.In_default) →
-    let g = c.before in
-    let a = (start g).args in
-    none ≡ place_of (is_named (text_bytes g.read_name.result)) (parse a.p a.places a.s.now).tables
+    let a = (start c.before).args in
+    none ≡ place_of (is_named (text_bytes c.read_name-name.result)) (parse a.p a.places a.s.now).tables
 missing c = answer-is c.in_default.is c.get_table.ensures
 
 -- the schema has no fault
@@ -47,34 +44,31 @@ faultless : (c : tie.Else-not-is_accepted) →
 faultless c =
     let v = c.validate-f in
     let a = (start (searched c).before).args in
-    no-fault (parse a.p a.places a.s.now).tables (read_table a.p a.rec.now) v.result v.ensures (sym c.is_accepted.ensures ∙ not-false _ c.if-not-is_accepted.false)
+    no-fault (parse a.p a.places a.s.now).tables (read_table a.p a.rec.now) v.result v.ensures (sym c.is_accepted.ensures ∙ c.if-not-is_accepted.false)
 
 -- there is room for it, and its place is found
 abbrev passed : tie.Else-p-count → tie.Else-not-is_accepted
-passed c = c.before.before.before.before
+passed c = c.before.before.before
 
 taken : (c : tie.After-named_before-i) →
-    let e = c.before.before.before.before in
-    let g = (searched (passed e)).before in
+    let g = (searched (passed c.before.before.before)).before in
     let a = (start g).args in
-    Taken a.p a.places a.s.now a.rec.now (text_bytes g.read_name.result) e.table-count.result
-    c.schema-width.result
+    Taken a.p a.places a.s.now a.rec.now (text_bytes g.read_name-name.result) c.table_count-count.result
+    c.schema_width-width.result
     c.named_before-i.result
 taken c =
-    let e = c.before.before.before.before in
-    let d = passed e in
+    let d = passed c.before.before.before in
     let u = searched d in
-    let g = u.before in
-    let b = start g in
+    let b = start u.before in
     record {
       store = b.requires.0;
       table = b.requires.1;
-      named = g.read_name.ensures.0;
+      named = u.read_name-name.ensures.0;
       missing = missing u;
       faultless = faultless d;
-      counted = e.table-count.ensures;
-      room = e.if2.false;
-      width = c.schema-width.ensures;
+      counted = c.table_count-count.ensures;
+      room = c.if-p-count.false;
+      width = c.schema_width-width.ensures;
       place = c.named_before-i.ensures;
     }
 
@@ -83,9 +77,8 @@ read-name-requires c κs = omega (arith, record-least c.args.p c.args.rec.now c.
 
 get-table-requires : tie.Need-get_table-requires
 get-table-requires c κs =
-    let b = c.before in
-    let a = b.args in
-    (store-catalog a.p a.places a.s.now b.requires.0, c.read_name.ensures.1)
+    let a = c.args in
+    (store-catalog a.p a.places a.s.now c.requires.0, c.read_name-name.ensures.1)
 
 enum_told : tie.Need-enum_told-1
 enum_told c = search rules
@@ -98,17 +91,15 @@ same_length c = search rules
 
 returns : tie.Need-returns-in-At
 returns c =
-    let t = c.before in
-    let g = t.before in
-    let b = start g in
-    known_kept b.requires.0 b.requires.1 g.read_name.ensures.0 (known t) _ c.refused.ensures
+    let b = start c.before.before in
+    known_kept b.requires.0 b.requires.1 c.read_name-name.ensures.0 (known c.before) _ c.refused.ensures
 
 enum-told-2 : tie.Need-enum_told-in_default
 enum-told-2 c = search rules
 
 validate-requires : tie.Need-validate-f-requires
 validate-requires c κs =
-    let b = start c.before.before in
+    let b = start c.before in
     let a = b.args in
     (store-catalog a.p a.places a.s.now b.requires.0, b.requires.1)
 
@@ -123,19 +114,16 @@ same-length-2 c = search rules
 
 returns-2 : tie.Need-returns-then-not-is_accepted
 returns-2 c =
-    let i = c.before.before in
-    let v = i.validate-f in
-    let u = i.before.before in
-    let g = u.before.before in
-    let b = start g in
-    faulty-kept b.requires.0 b.requires.1 g.read_name.ensures.0 (missing u) v.result v.ensures
-    (sym i.is_accepted.ensures ∙ not-true _ c.if-not-is_accepted.true)
+    let v = c.validate-f in
+    let b = start c.before.before.before.before.before in
+    faulty-kept b.requires.0 b.requires.1 c.read_name-name.ensures.0 (missing c.before.before.before.before) v.result v.ensures
+    (sym c.is_accepted.ensures ∙ c.if-not-is_accepted.true)
     _
     c.refused-then-not-is_accepted.ensures
 
 table-count-requires : tie.Need-table_count-count-requires
 table-count-requires c κs =
-    let b = start (searched c.before).before in
+    let b = start (searched c).before in
     let a = b.args in
     laid-header _ _ _ _ (store_laid a.p a.places a.s.now b.requires.0)
 
@@ -147,12 +135,9 @@ same-length-3 c = search rules
 
 returns-3 : tie.Need-returns-then-p-count
 returns-3 c =
-    let k = c.before.before.before in
-    let d = k.before.before in
-    let u = searched d in
-    let g = u.before in
-    let b = start g in
-    full-kept b.requires.0 b.requires.1 g.read_name.ensures.0 (missing u) (faultless d) k.table_count-count.ensures c.if-p-count.true _
+    let u = searched c.before.before.before.before in
+    let b = start u.before in
+    full-kept b.requires.0 b.requires.1 u.read_name-name.ensures.0 (missing u) (faultless c.before.before.before.before) c.table_count-count.ensures c.if-p-count.true _
     c.refused-then-p-count.ensures
 
 schema-width-requires : tie.Need-schema_width-width-requires
@@ -166,7 +151,7 @@ sub-named-before c =
 
 part-named-before-start : tie.Need-slice_bounds-named_before-start
 part-named-before-start c =
-    let b = start (searched (passed c.before.before)).before in
+    let b = start (searched (passed c.before)).before in
     let a = b.args in
     laid-header _ _ _ _ (store_laid a.p a.places a.s.now b.requires.0)
 
@@ -175,11 +160,10 @@ part-named-before-end c = search rules
 
 named-before-requires : tie.Need-named_before-i-requires
 named-before-requires c κs =
-    let w = c.schema-width in
-    let e = c.before.before.before in
-    let k = e.table-count in
-    let g = (searched (passed e)).before in
-    let n = g.read_name in
+    let w = c.schema_width-width in
+    let k = c.table_count-count in
+    let g = (searched (passed c.before.before)).before in
+    let n = g.read_name-name in
     let b = start g in
     let a = b.args in (
       (omega (arith, w.ensures, name-within a.p Schemas), n.ensures.1),
@@ -198,8 +182,7 @@ open-counted-requires c κs = table-grows (taken c.before)
 
 write-record-requires : tie.Need-write_record-requires
 write-record-requires c κs =
-    let o = c.before.before.before in
-    record-fits (taken o.before.before) o.open_counted.ensures
+    record-fits (taken c.before.before.before.before.before) c.open_counted.ensures
 
 accepted-requires : tie.Need-accepted-requires
 accepted-requires c κs = search rules
@@ -209,9 +192,7 @@ same-length-4 c = search rules
 
 returns-4 : tie.Need-returns
 returns-4 c =
-    let w = c.before.before.before in
-    let o = w.before.before.before.before in
-    table-created (taken o.before.before) o.open_counted.ensures w.write_record.ensures _ c.accepted.ensures
+    table-created (taken c.before.before.before.before.before.before.before.before.before) c.open_counted.ensures c.write_record.ensures _ c.accepted.ensures
 
 pub create_table_spec : {M : Type 1} → statement M
 create_table_spec =

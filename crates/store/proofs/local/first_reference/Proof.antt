@@ -33,8 +33,7 @@ loop-holds c = refl
 
 read-column-requires : tie.Need-read_column-c-requires invariant-loop decreases-loop
 read-column-requires c κs =
-    let b = c.before.before.before.before in
-    (b.requires.0, omega (arith, c.loop-j-test.true, count-byte b.args.p b.args.rec.now, columns-few _ _ b.requires.0))
+    (c.requires.0, omega (arith, c.loop-j-test.true, count-byte c.args.p c.args.rec.now, columns-few _ _ c.requires.0))
 
 compare-texts-requires : tie.Need-compare_texts-requires invariant-loop decreases-loop
 compare-texts-requires c κs = (c.requires.1, c.read_column-c.ensures.proper.reference)
@@ -44,59 +43,44 @@ enum_told c = search rules
 
 returns : tie.Need-returns-in-Same invariant-loop decreases-loop
 returns c =
-    let asked = c.before in
-    let then = asked.before in
-    let turn = then.before.before in
-    let b = turn.before.before.before.before in
-    column-refers _ _ b.requires.0 _ _ turn.loop-j.invariant (omega (arith, turn.loop-j-test.true, count-byte b.args.p b.args.rec.now))
-    then.read_column-c.result
-    then.read_column-c.ensures
-    then.if-c.true
-    (same-is asked.compare_texts.result _ asked.compare_texts.ensures c.in-Same.is)
+    column-refers _ _ c.requires.0 _ _ c.loop-j.invariant (omega (arith, c.loop-j-test.true, count-byte c.args.p c.args.rec.now))
+    c.read_column-c.result
+    c.read_column-c.ensures
+    c.if-c.true
+    (same-is c.compare_texts.result _ c.compare_texts.ensures c.in-Same.is)
 
 add-j : tie.Need-overflow_add-j invariant-loop decreases-loop
 add-j c =
-    let turn = c.before.before.before.before in
-    let b = turn.before.before.before.before in
-    omega (arith, turn.loop-j-test.true, few b)
+    omega (arith, c.loop-j-test.true, few c.before.before.before.before.before.before.before.before.before)
 
 loop-less : tie.Need-loop-j-smaller-in_default invariant-loop decreases-loop
 loop-less c = omega arith
 
 loop-again : tie.Need-loop-j-preserved-in_default invariant-loop decreases-loop
 loop-again c =
-    let asked = c.before in
-    let then = asked.before in
-    let turn = then.before.before in
-    let b = turn.before.before.before.before in
-    column-other _ _ b.requires.0 _ _ turn.loop-j.invariant (omega (arith, turn.loop-j-test.true, count-byte b.args.p b.args.rec.now))
-    then.read_column-c.result
-    then.read_column-c.ensures
-    then.if-c.true
-    (not_same asked.compare_texts.result _ asked.compare_texts.ensures c.in_default.in_default-own.keys2)
+    column-other _ _ c.requires.0 _ _ c.loop-j.invariant (omega (arith, c.loop-j-test.true, count-byte c.args.p c.args.rec.now))
+    c.read_column-c.result
+    c.read_column-c.ensures
+    c.if-c.true
+    (not_same c.compare_texts.result _ c.compare_texts.ensures c.in_default.in_default-own.keys2)
 
 add-j-2 : tie.Need-overflow_add-j-else-c invariant-loop decreases-loop
 add-j-2 c =
-    let turn = c.before.before in
-    let b = turn.before.before.before.before in
-    omega (arith, turn.loop-j-test.true, few b)
+    omega (arith, c.loop-j-test.true, few c.before.before.before.before.before.before)
 
 loop-less-2 : tie.Need-loop-j-smaller invariant-loop decreases-loop
 loop-less-2 c = omega arith
 
 loop-again-2 : tie.Need-loop-j-preserved invariant-loop decreases-loop
 loop-again-2 c =
-    let turn = c.before.before in
-    let b = turn.before.before.before.before in
-    column-without _ _ b.requires.0 _ _ turn.loop-j.invariant (omega (arith, turn.loop-j-test.true, count-byte b.args.p b.args.rec.now))
+    column-without _ _ c.requires.0 _ _ c.loop-j.invariant (omega (arith, c.loop-j-test.true, count-byte c.args.p c.args.rec.now))
     c.read_column-c.result
     c.read_column-c.ensures
     c.if-c.false
 
 returns-2 : tie.Need-returns invariant-loop decreases-loop
 returns-2 c =
-    let b = c.before.before.before.before in
-    no-reference _ _ _ c.loop-j.invariant (omega (arith, c.loop-j-test.false, count-byte b.args.p b.args.rec.now))
+    no-reference _ _ _ c.loop-j.invariant (omega (arith, c.loop-j-test.false, count-byte c.args.p c.args.rec.now))
 
 pub first_reference_spec : {M : Type 1} → statement M
 first_reference_spec =

@@ -41,10 +41,8 @@ table-record-requires c κs = (c.requires.0.inside, within c)
 
 compare-named-requires : tie.Need-compare_named-requires invariant-loop decreases-loop
 compare-named-requires c κs =
-    let turn = c.before in
-    let b = turn.before.before.before.before in
-    let a = b.args in
-    (record-named a.p a.places a.s.now turn.loop-i.i (within turn) _ c.table_record-rec.ensures b.requires.0, b.requires.1)
+    let a = c.args in
+    (record-named a.p a.places a.s.now c.loop-i.i (within c.before) _ c.table_record-rec.ensures c.requires.0, c.requires.1)
 
 enum_told : tie.Need-enum_told-1 invariant-loop decreases-loop
 enum_told c = search rules
@@ -57,38 +55,30 @@ loop-less c = omega arith
 
 loop-again : tie.Need-loop-i-preserved-in-Same invariant-loop decreases-loop
 loop-again c =
-    let turn = c.before.before.before in
-    let b = turn.before.before.before.before in
-    let a = b.args in
+    let a = c.args in
     let o = c.compare_named in
-    table-itself a.p a.places a.s.now _ turn.loop-i.i turn.loop-i.invariant (within turn) _ c.table_record-rec.ensures
+    table-itself a.p a.places a.s.now _ c.loop-i.i c.loop-i.invariant (within c.before.before.before) _ c.table_record-rec.ensures
     (same-is o.result _ o.ensures c.in-Same.is)
 
 first-reference-requires : tie.Need-first_reference-requires invariant-loop decreases-loop
 first-reference-requires c κs =
-    let turn = c.before.before.before in
-    let b = turn.before.before.before.before in
-    let a = b.args in
-    (record-bytes a.p a.places a.s.now turn.loop-i.i (within turn) _ c.table_record-rec.ensures b.requires.0, b.requires.1)
+    let a = c.args in
+    (record-bytes a.p a.places a.s.now c.loop-i.i (within c.before.before.before) _ c.table_record-rec.ensures c.requires.0, c.requires.1)
 
 enum-known-j : tie.Need-enum_known-j invariant-loop decreases-loop
 enum-known-j c = search rules
 
 read-name-requires : tie.Need-read_name-requires invariant-loop decreases-loop
 read-name-requires c κs =
-    let turn = c.before.before.before.before.before in
-    let b = turn.before.before.before.before in
-    let a = b.args in
-    record-named a.p a.places a.s.now turn.loop-i.i (within turn) _ c.table_record-rec.ensures b.requires.0
+    let a = c.args in
+    record-named a.p a.places a.s.now c.loop-i.i (within c.before.before.before.before.before) _ c.table_record-rec.ensures c.requires.0
 
 returns : tie.Need-returns-in-At invariant-loop decreases-loop
 returns c =
-    let turn = c.before.before.before.before.before.before in
-    let b = turn.before.before.before.before in
-    let a = b.args in
+    let a = c.args in
     let o = c.compare_named in
     let f = c.first_reference in (
-      table-refers a.p a.places a.s.now _ turn.loop-i.i turn.loop-i.invariant (within turn) _
+      table-refers a.p a.places a.s.now _ c.loop-i.i c.loop-i.invariant (within c.before.before.before.before.before.before) _
           c.table_record-rec.ensures
           _
           _
@@ -109,22 +99,19 @@ loop-less-2 c = omega arith
 
 loop-again-2 : tie.Need-loop-i-preserved invariant-loop decreases-loop
 loop-again-2 c =
-    let turn = c.before.before.before.before.before in
-    let b = turn.before.before.before.before in
-    let a = b.args in
+    let a = c.args in
     let o = c.compare_named in
     let f = c.first_reference in
-    table-without a.p a.places a.s.now _ turn.loop-i.i turn.loop-i.invariant (within turn) _ c.table_record-rec.ensures
+    table-without a.p a.places a.s.now _ c.loop-i.i c.loop-i.invariant (within c.before.before.before.before.before) _ c.table_record-rec.ensures
     (not_same o.result _ o.ensures c.in_default.in_default-own.keys2)
     (answer-is c.in-Nothing.is f.ensures)
 
 returns-2 : tie.Need-returns invariant-loop decreases-loop
-returns-2 c =
-    let b = c.before.before.before.before in (
-      not-referenced (text_bytes b.args.name) (parse b.args.p b.args.places b.args.s.now).tables c.loop-i.i c.loop-i.invariant
-          (omega (arith, c.loop-i-test.false, c.table_count-count.ensures, tables-count b.args.p b.args.places b.args.s.now)),
-      b.requires.1,
-    )
+returns-2 c = (
+  not-referenced (text_bytes c.args.name) (parse c.args.p c.args.places c.args.s.now).tables c.loop-i.i c.loop-i.invariant
+      (omega (arith, c.loop-i-test.false, c.table_count-count.ensures, tables-count c.args.p c.args.places c.args.s.now)),
+  c.requires.1,
+)
 
 pub table_references_spec : {M : Type 1} → statement M
 table_references_spec =

@@ -2,7 +2,6 @@
 use mathlib.Core.Path.{◌≡◌, ◌∙◌}
 use mathlib.Core.Option.{some}
 use borrow.Author.Rules.{rules}
-use borrow.Author.Tests.{not-true, not-false}
 use Rattle.values.specs.Meaning.{text_bytes}
 use Rattle.rules.specs.State.{is_named}
 use Rattle.rules.specs.Layout.{parse}
@@ -15,15 +14,14 @@ use Rattle.store.proofs.reads.lookup_index.Statement.{statement}
 use Rattle.store.proofs.reads.lookup_index.Tie as tie
 
 -- the place that is found
-place : (c : tie.In-At-2) →
+place : (c : tie.In-At) →
     let a = c.args in
-    some c.t-1.given.0.0 ≡ place_of (is_named (text_bytes a.name)) (parse a.p a.places a.s.now).tables
-place c = answer-is c.t-1.given.1 c.get_table.ensures
+    some c.in-At.t ≡ place_of (is_named (text_bytes a.name)) (parse a.p a.places a.s.now).tables
+place c = answer-is c.in-At.is c.get_table.ensures
 
 get-table-requires : tie.Need-get_table-requires
 get-table-requires c κs =
-    let b = c.before.before in
-    (held-catalog b.args.p b.args.places b.args.s.now b.requires.0, b.requires.1)
+    (held-catalog c.args.p c.args.places c.args.s.now c.requires.0, c.requires.1)
 
 enum-known-t : tie.Need-enum_known-t
 enum-known-t c = search rules
@@ -36,18 +34,15 @@ refused-requires c κs = search rules
 
 returns : tie.Need-returns-in_default
 returns c =
-    let g = c.before.before in
-    let a = g.args in
+    let a = c.args in
     c.refused.ensures
     ∙ lookup-unknown a.p a.places a.s.now (text_bytes a.name) a.column (values_from a.rec.now a.count a.at)
-    (answer-is c.in_default.is g.get_table.ensures)
+    (answer-is c.in_default.is c.get_table.ensures)
 
 is-indexed-requires : tie.Need-is_indexed-requires
 is-indexed-requires c κs =
-    let f = c in
-    let b = f.before.before.before.before in
-    let a = b.args in
-    (b.requires.0, table-known a.p a.places a.s.now (text_bytes a.name) f.in-At.t (place f))
+    let a = c.args in
+    (c.requires.0, table-known a.p a.places a.s.now (text_bytes a.name) c.in-At.t (place c))
 
 refused-requires-2 : tie.Need-refused-requires-then-not-is_indexed
 refused-requires-2 c κs = search rules
@@ -55,23 +50,20 @@ refused-requires-2 c κs = search rules
 returns-2 : tie.Need-returns-then-not-is_indexed
 returns-2 c =
     let x = c.is_indexed in
-    let f = c.before.before.before in
-    let a = f.args in
+    let a = c.args in
     c.refused-then-not-is_indexed.ensures
-    ∙ lookup-refused a.p a.places a.s.now (text_bytes a.name) f.in-At.t (place f) a.column x.result x.ensures
+    ∙ lookup-refused a.p a.places a.s.now (text_bytes a.name) c.in-At.t (place c.before.before.before) a.column x.result x.ensures
     (values_from a.rec.now a.count a.at)
-    (not-true x.result c.if-not-is_indexed.true)
+    c.if-not-is_indexed.true
 
 key-count-requires : tie.Need-key_count-requires
 key-count-requires c κs =
     let x = c.is_indexed in
-    let f = c.before.before in
-    let b = f.before.before.before.before in
-    let a = b.args in (
-      b.requires.0,
-      b.requires.1,
-      column-indexed a.p a.places a.s.now (text_bytes a.name) f.in-At.t (place f) a.column x.result x.ensures
-          (not-false x.result c.if-not-is_indexed.false),
+    let a = c.args in (
+      c.requires.0,
+      c.requires.1,
+      column-indexed a.p a.places a.s.now (text_bytes a.name) c.in-At.t (place c.before.before) a.column x.result x.ensures
+          c.if-not-is_indexed.false,
     )
 
 accepted-requires : tie.Need-accepted-requires
@@ -81,12 +73,11 @@ returns-3 : tie.Need-returns
 returns-3 c =
     let k = c.key_count in
     let x = c.is_indexed in
-    let f = c.before.before.before.before in
-    let a = f.args in
+    let a = c.args in
     c.accepted.ensures
-    ∙ lookup-counted a.p a.places a.s.now (text_bytes a.name) f.in-At.t (place f) a.column x.result x.ensures
+    ∙ lookup-counted a.p a.places a.s.now (text_bytes a.name) c.in-At.t (place c.before.before.before.before) a.column x.result x.ensures
     (values_from a.rec.now a.count a.at)
-    (not-false x.result c.if-not-is_indexed.false)
+    c.if-not-is_indexed.false
     k.result
     k.ensures
 

@@ -22,21 +22,19 @@ abbrev keys : tie.Start → List Value
 keys b = values_from b.args.rec.now b.args.count b.args.at
 
 -- the table at place t has the name
-known : (c : tie.In-At-2) →
-    let a = c.before.args in
-    some c.t-1.given.0.0 ≡ place_of (is_named (text_bytes a.name)) (parse a.p a.places a.s.now).tables
-known c = answer-is c.t-1.given.1 c.get_table.ensures
+known : (c : tie.In-At) →
+    let a = c.args in
+    some c.in-At.t ≡ place_of (is_named (text_bytes a.name)) (parse a.p a.places a.s.now).tables
+known c = answer-is c.in-At.is c.get_table.ensures
 
 room : (c : tie.Else-lacks_places) →
-    let b = c.before.before.before.before in
-    RoomFor b.args.p b.args.places b.args.s.now b.args.j.now c.t.given.0.0 (keys b)
+    RoomFor c.args.p c.args.places c.args.s.now c.args.j.now c.in-At.t (keys c.before.before.before.before.before.before.before.before.before)
 room c = sym c.lacks_places.ensures ∙ c.if-lacks_places.false
 
 get-table-requires : tie.Need-get_table-requires
 get-table-requires c κs =
-    let b = c.before in
-    let a = b.args in
-    (store-catalog a.p a.places a.s.now b.requires.0.store, b.requires.1)
+    let a = c.args in
+    (store-catalog a.p a.places a.s.now c.requires.0.store, c.requires.1)
 
 enum-known-t : tie.Need-enum_known-t
 enum-known-t c = search rules
@@ -52,14 +50,12 @@ same_length c = search rules
 
 returns : tie.Need-returns-in_default
 returns c =
-    let b = c.before in
-    delete-missed b.requires.0 (text_bytes b.args.name) (keys b) (answer-is c.in_default.is c.get_table.ensures) c.refused.result
+    delete-missed c.requires.0 (text_bytes c.args.name) (keys c.before.before.before.before.before.before) (answer-is c.in_default.is c.get_table.ensures) c.refused.result
     c.refused.ensures
 
 row-references-requires : tie.Need-row_references-r-requires
 row-references-requires c κs =
-    let b = c.before.before in
-    ((laid-books b.requires.0).store, b.requires.1)
+    ((laid-books c.requires.0).store, c.requires.1)
 
 carrying-requires : tie.Need-carrying-requires
 carrying-requires c κs = search rules
@@ -69,16 +65,14 @@ same-length-2 c = search rules
 
 returns-2 : tie.Need-returns-then-r
 returns-2 c =
-    let b = c.before in
     let r = c.row_references-r in
-    delete-held b.requires.0 (text_bytes b.args.name) (keys b) c.in-At.t (known c.before.before.before.before.before) r.result r.ensures.0 c.if-r.true c.carrying.result
+    delete-held c.requires.0 (text_bytes c.args.name) (keys c.before.before.before.before.before.before.before.before.before.before) c.in-At.t (known c.before.before.before.before.before) r.result r.ensures.0 c.if-r.true c.carrying.result
     c.carrying.ensures
 
 lacks-places-requires : tie.Need-lacks_places-requires
 lacks-places-requires c κs =
-    let b = c.before.before.before.before in
-    let a = b.args in
-    (laid-books b.requires.0, table-known a.p a.places a.s.now (text_bytes a.name) c.t.given.0.0 (known c.before.before.before.before))
+    let a = c.args in
+    (laid-books c.requires.0, table-known a.p a.places a.s.now (text_bytes a.name) c.in-At.t (known c.before.before))
 
 refused-requires-2 : tie.Need-refused-requires-then-lacks_places
 refused-requires-2 c κs = search rules
@@ -91,17 +85,15 @@ same-length-4 c = search rules
 
 returns-3 : tie.Need-returns-then-lacks_places
 returns-3 c =
-    let b = c.before.before.before.before in
-    let r = c.row-references in
-    delete-lacks b.requires.0 (text_bytes b.args.name) (keys b) c.t.given.0.0 (known c.before.before.before.before.before.before.before) r.result r.ensures.0 c.if1.false
+    let r = c.row_references-r in
+    delete-lacks c.requires.0 (text_bytes c.args.name) (keys c.before.before.before.before.before.before.before.before.before.before) c.in-At.t (known c.before.before.before.before.before) r.result r.ensures.0 c.if-r.false
     (sym c.lacks_places.ensures ∙ c.if-lacks_places.true) c.refused-then-lacks_places.result
     c.refused-then-lacks_places.ensures
 
 remove-keys-requires : tie.Need-remove_keys-requires
 remove-keys-requires c κs =
-    let b = c.before.before.before.before in
-    let a = b.args in
-    (laid-books b.requires.0, table-known a.p a.places a.s.now (text_bytes a.name) c.t.given.0.0 (known c.before.before.before.before.before.before.before.before), room c.before.before)
+    let a = c.args in
+    (laid-books c.requires.0, table-known a.p a.places a.s.now (text_bytes a.name) c.in-At.t (known c.before.before.before.before.before.before), room c.before.before)
 
 accepted-requires : tie.Need-accepted-requires
 accepted-requires c κs = search rules
@@ -114,9 +106,8 @@ same-length-6 c = search rules
 
 returns-4 : tie.Need-returns
 returns-4 c =
-    let b = c.before.before.before.before in
-    let r = c.row-references in
-    delete-goes b.requires.0 (text_bytes b.args.name) (keys b) c.t.given.0.0 (known c.before.before.before.before.before.before.before.before.before.before.before.before.before.before) r.result r.ensures.0 c.if1.false (room c.before.before.before.before.before.before.before.before)
+    let r = c.row_references-r in
+    delete-goes c.requires.0 (text_bytes c.args.name) (keys c.before.before.before.before.before.before.before.before.before.before.before.before.before.before.before.before.before) c.in-At.t (known c.before.before.before.before.before.before.before.before.before.before.before.before) r.result r.ensures.0 c.if-r.false (room c.before.before.before.before.before.before.before.before)
     c.remove_keys.ensures c.accepted.result
     c.accepted.ensures
 

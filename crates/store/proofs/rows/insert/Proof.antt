@@ -2,7 +2,6 @@
 use mathlib.Core.Path.{◌≡◌, sym, ◌∙◌}
 use mathlib.Core.Bool.{false}
 use mathlib.Core.Option.{none}
-use borrow.Author.Tests.{not-true, not-false}
 use Rattle.rules.specs.Journal.{lacks}
 use Rattle.rules.specs.Layout.{parse}
 use Rattle.rules.specs.Pages.{books_of}
@@ -17,20 +16,18 @@ use Rattle.store.proofs.rows.insert.Tie as tie
 
 -- the row passes, and there is a place
 free : (c : tie.Else-not-is_accepted) →
-    let a = c.before.args in
+    let a = c.args in
     row_fault a.p a.places (parse a.p a.places a.s.now) (table_in a.p a.places a.s.now a.t) false (cells_of a.row) ≡ none
 free c =
-    let b = c.before in
-    let i = c.before in
-    passes b.requires.0 b.requires.1 false c.validate_row-k.ensures (sym i.is_accepted.ensures ∙ not-false _ c.if-not-is_accepted.false)
+    passes c.requires.0 c.requires.1 false c.validate_row-k.ensures (sym c.is_accepted.ensures ∙ c.if-not-is_accepted.false)
 
 room : (c : tie.Else-not-has_places) →
-    let a = c.before.before.args in
+    let a = c.args in
     lacks (books_of a.p a.places a.s.now a.j.now).journal 1 ≡ false
-room c = has_room (laid-books c.before.before.requires.0) 1 c.has_places.ensures (not-false _ c.if-not-has_places.false)
+room c = has_room (laid-books c.requires.0) 1 c.has_places.ensures c.if-not-has_places.false
 
 validate-row-requires : tie.Need-validate_row-k-requires
-validate-row-requires c κs = let b = c.before in (b.requires.0.store, b.requires.1)
+validate-row-requires c κs = (c.requires.0.store, c.requires.1)
 
 is-accepted-requires : tie.Need-is_accepted-requires
 is-accepted-requires c κs = search rules
@@ -43,14 +40,12 @@ same_length c = search rules
 
 returns : tie.Need-returns-then-not-is_accepted
 returns c =
-    let b = c.before in
-    let i = c.before.before in
-    insert-refused b.requires.0 b.requires.1 c.validate_row-k.ensures (sym i.is_accepted.ensures ∙ not-true _ c.if-not-is_accepted.true) b.args.n
+    insert-refused c.requires.0 c.requires.1 c.validate_row-k.ensures (sym c.is_accepted.ensures ∙ c.if-not-is_accepted.true) c.args.n
     c.refused.result
     c.refused.ensures
 
 has-places-requires : tie.Need-has_places-requires
-has-places-requires c κs = paged-of (laid-books c.before.before.requires.0)
+has-places-requires c κs = paged-of (laid-books c.requires.0)
 
 refused-requires-2 : tie.Need-refused-requires-then-not-has_places
 refused-requires-2 c κs = search rules
@@ -63,21 +58,18 @@ same-length-3 c = search rules
 
 returns-2 : tie.Need-returns-then-not-has_places
 returns-2 c =
-    let b = c.before.before in
-    insert-full b.requires.0 b.requires.1 (free c.before.before.before.before) (no_room (laid-books b.requires.0) 1 c.has_places.ensures (not-true _ c.if-not-has_places.true)) b.args.n
+    insert-full c.requires.0 c.requires.1 (free c.before.before.before) (no_room (laid-books c.requires.0) 1 c.has_places.ensures c.if-not-has_places.true) c.args.n
     c.refused-then-not-has_places.result
     c.refused-then-not-has_places.ensures
 
 note-new-requires : tie.Need-note_new-requires
 note-new-requires c κs =
-    let b = c.before.before.before in
-    let l = laid-books b.requires.0 in
-    (l.store, b.requires.1, roomy_of l (room c.before.before))
+    let l = laid-books c.requires.0 in
+    (l.store, c.requires.1, roomy_of l (room c.before))
 
 add-row-requires : tie.Need-add_row-requires
 add-row-requires c κs =
-    let b = c.before.before.before in
-    ((laid-books b.requires.0).store, b.requires.1.proper, row-addable b.requires.0 b.requires.1 (free c.before.before.before.before.before.before.before.before.before))
+    ((laid-books c.requires.0).store, c.requires.1.proper, row-addable c.requires.0 c.requires.1 (free c.before.before.before.before.before.before.before))
 
 accepted-requires : tie.Need-accepted-requires
 accepted-requires c κs = search rules
@@ -90,8 +82,7 @@ same-length-5 c = search rules
 
 returns-3 : tie.Need-returns
 returns-3 c =
-    let b = c.before.before.before in
-    row-inserted b.requires.0 b.requires.1 (free c.before.before.before.before.before.before.before.before.before.before.before.before.before) (room c.before.before.before.before.before.before.before.before.before.before) c.add_row.ensures c.note_new.ensures b.args.n c.accepted.result
+    row-inserted c.requires.0 c.requires.1 (free c.before.before.before.before.before.before.before.before.before.before.before) (room c.before.before.before.before.before.before.before.before.before) c.add_row.ensures c.note_new.ensures c.args.n c.accepted.result
     c.accepted.ensures
 
 pub insert_spec : {M : Type 1} → statement M

@@ -19,49 +19,43 @@ use Rattle.store.proofs.rows.other_key.Statement.{statement}
 use Rattle.store.proofs.rows.other_key.Tie as tie
 
 named : (c : tie.After-read_name-name) →
-    let a = c.before.args in
+    let a = c.args in
     text_bytes c.read_name-name.result ≡ (table_in a.p a.places a.s.now a.t).name
 named c =
-    let b = c.before in
-    its-name (laid-books b.requires.0).store b.args.t b.requires.1.known c.table_record.ensures c.read_name-name.ensures.0
+    its-name (laid-books c.requires.0).store c.args.t c.requires.1.known c.table_record.ensures c.read_name-name.ensures.0
 
 -- the first reference to the old key, if there is one
 referrer : (c : tie.After-row_references-r) →
-    let a = c.before.before.args in
+    let a = c.args in
     let st = parse a.p a.places a.s.now in
     referrer_of c.row_references-r.result ≡ row_referenced st.rows (table_in a.p a.places a.s.now a.t).name (meaning a.old ∷ []) st.tables
 referrer c =
-    let b = c.before.before in
-    asked-for b.requires.0 b.requires.1 (meaning b.args.old) (named c.before.before) b.requires.3 c.row_references-r.ensures.0
+    asked-for c.requires.0 c.requires.1 (meaning c.args.old) (named c.before) c.requires.3 c.row_references-r.ensures.0
 
 unreferenced : (c : tie.Else-r) →
-    let a = c.before.before.args in
+    let a = c.args in
     let st = parse a.p a.places a.s.now in
     row_referenced st.rows (table_in a.p a.places a.s.now a.t).name (meaning a.old ∷ []) st.tables ≡ none
 unreferenced c =
-    let b = c.before.before in
-    no-reference b.requires.0 b.requires.1 (meaning b.args.old) c.row_references-r.result c.if-r.false (referrer c.before)
+    no-reference c.requires.0 c.requires.1 (meaning c.args.old) c.row_references-r.result c.if-r.false (referrer c.before)
 
 -- whether there is no place for its row
 lacking : (c : tie.After-lacks_places) →
-    let a = c.before.before.before.before.args in
+    let a = c.args in
     c.lacks_places.result ≡ lacks (books_of a.p a.places a.s.now a.j.now).journal (length (removals_in a.p a.places a.s.now a.t (meaning a.old ∷ [])))
 lacking c =
-    let b = c.before.before.before.before in
-    one_key b.requires.0 b.requires.1 (meaning b.args.old) b.requires.3 c.lacks_places.ensures
+    one_key c.requires.0 c.requires.1 (meaning c.args.old) c.requires.3 c.lacks_places.ensures
 
 table-record-requires : tie.Need-table_record-requires
 table-record-requires c κs =
-    let b = c.before in
-    record-asked (laid-books b.requires.0).store b.args.t b.requires.1.known
+    record-asked (laid-books c.requires.0).store c.args.t c.requires.1.known
 
 read-name-requires : tie.Need-read_name-name-requires
 read-name-requires c κs =
-    let b = c.before in
-    name-fits (laid-books b.requires.0).store b.args.t b.requires.1.known c.table_record.ensures
+    name-fits (laid-books c.requires.0).store c.args.t c.requires.1.known c.table_record.ensures
 
 row-references-requires : tie.Need-row_references-r-requires
-row-references-requires c κs = ((laid-books c.before.before.requires.0).store, c.read_name.ensures.1)
+row-references-requires c κs = ((laid-books c.requires.0).store, c.read_name-name.ensures.1)
 
 carrying-requires : tie.Need-carrying-requires
 carrying-requires c κs = search rules
@@ -71,14 +65,12 @@ same_length c = search rules
 
 returns : tie.Need-returns-then-r
 returns c =
-    let b = c.before in
-    referenced-kept b.requires.0 b.requires.1 (meaning b.args.old) c.row_references-r.result c.if-r.true (referrer c.before.before.before) b.args.n c.carrying.result
+    referenced-kept c.requires.0 c.requires.1 (meaning c.args.old) c.row_references-r.result c.if-r.true (referrer c.before.before.before.before) c.args.n c.carrying.result
     c.carrying.ensures
 
 lacks-places-requires : tie.Need-lacks_places-requires
 lacks-places-requires c κs =
-    let b = c.before.before.before.before in
-    (laid-books b.requires.0, b.requires.1.known)
+    (laid-books c.requires.0, c.requires.1.known)
 
 refused-requires : tie.Need-refused-requires
 refused-requires c κs = search rules
@@ -91,22 +83,19 @@ same-length-3 c = search rules
 
 returns-2 : tie.Need-returns-then-lacks_places
 returns-2 c =
-    let b = c.before.before.before.before in
-    other-lacks b.requires.0 b.requires.1 (meaning b.args.old) (unreferenced c.before.before.before.before.before) (sym (lacking c.before.before) ∙ c.if-lacks_places.true) b.args.n c.refused.result
+    other-lacks c.requires.0 c.requires.1 (meaning c.args.old) (unreferenced c.before.before.before) (sym (lacking c.before.before) ∙ c.if-lacks_places.true) c.args.n c.refused.result
     c.refused.ensures
 
 remove-key-requires : tie.Need-remove_key-gone-requires
 remove-key-requires c κs =
-    let b = c.before.before.before.before in
-    (laid-books b.requires.0, b.requires.1.known, b.requires.2, sym (lacking c.before.before.before) ∙ c.if-lacks_places.false)
+    (laid-books c.requires.0, c.requires.1.known, c.requires.2, sym (lacking c.before.before.before) ∙ c.if-lacks_places.false)
 
 insert-requires : tie.Need-insert-a-requires
 insert-requires c κs =
-    let b = c.before.before.before.before in
-    let u = unreferenced c.before.before.before.before.before.before.before.before.before.before.before.before.before in
+    let u = unreferenced c.before.before.before.before.before.before.before.before.before.before.before in
     let l = sym (lacking c.before.before.before.before.before.before.before.before.before.before) ∙ c.if-lacks_places.false in
     let e = c.remove_key-gone.ensures.0 in
-    (gone-booked b.requires.0 b.requires.1 (meaning b.args.old) u l e, gone-full b.requires.0 b.requires.1 (meaning b.args.old) u l e)
+    (gone-booked c.requires.0 c.requires.1 (meaning c.args.old) u l e, gone-full c.requires.0 c.requires.1 (meaning c.args.old) u l e)
 
 is-accepted-requires : tie.Need-is_accepted-requires
 is-accepted-requires c κs = search rules
@@ -119,8 +108,7 @@ same-length-5 c = search rules
 
 returns-3 : tie.Need-returns-then-is_accepted
 returns-3 c =
-    let b = c.before.before.before.before in
-    again-accepted b.requires.0 b.requires.1 (meaning b.args.old) (unreferenced c.before.before.before.before.before.before.before.before.before.before.before.before.before.before.before.before.before.before.before.before) (sym (lacking c.before.before.before.before.before.before.before.before.before.before.before.before.before.before.before.before.before) ∙ c.if-lacks_places.false) c.remove_key-gone.ensures.0 b.args.n
+    again-accepted c.requires.0 c.requires.1 (meaning c.args.old) (unreferenced c.before.before.before.before.before.before.before.before.before.before.before.before.before.before.before.before.before.before) (sym (lacking c.before.before.before.before.before.before.before.before.before.before.before.before.before.before.before.before.before) ∙ c.if-lacks_places.false) c.remove_key-gone.ensures.0 c.args.n
     c.insert-a.ensures
     (sym c.is_accepted.ensures ∙ c.if-is_accepted.true)
 
@@ -135,8 +123,7 @@ same-length-7 c = search rules
 
 returns-4 : tie.Need-returns
 returns-4 c =
-    let b = c.before.before.before.before in
-    again-refused b.requires.0 b.requires.1 (meaning b.args.old) (unreferenced c.before.before.before.before.before.before.before.before.before.before.before.before.before.before.before.before.before.before.before.before.before) (sym (lacking c.before.before.before.before.before.before.before.before.before.before.before.before.before.before.before.before.before.before) ∙ c.if-lacks_places.false) c.remove_key-gone.ensures.0 b.args.n
+    again-refused c.requires.0 c.requires.1 (meaning c.args.old) (unreferenced c.before.before.before.before.before.before.before.before.before.before.before.before.before.before.before.before.before.before.before) (sym (lacking c.before.before.before.before.before.before.before.before.before.before.before.before.before.before.before.before.before.before) ∙ c.if-lacks_places.false) c.remove_key-gone.ensures.0 c.args.n
     c.insert-a.ensures
     c.remove_key-gone.ensures.1
     c.with_gone.result

@@ -15,51 +15,45 @@ use Rattle.store.proofs.rows.remove_key.Statement.{statement}
 use Rattle.store.proofs.rows.remove_key.Tie as tie
 
 named : (c : tie.After-read_name-name) →
-    let a = c.before.args in
+    let a = c.args in
     text_bytes c.read_name-name.result ≡ (table_in a.p a.places a.s.now a.t).name
 named c =
-    let b = c.before in
-    its-name b.requires.0.store b.args.t b.requires.1 c.table_record.ensures c.read_name-name.ensures.0
+    its-name c.requires.0.store c.args.t c.requires.1 c.table_record.ensures c.read_name-name.ensures.0
 
 -- no row has the key, or the one at place i
 absent : (c : tie.In-Nothing) →
-    let a = c.before.before.before.args in
-    none ≡ place_of (is_row (text_bytes c.read_name.result) (meaning a.key)) (parse a.p a.places a.s.now).rows
+    let a = c.args in
+    none ≡ place_of (is_row (text_bytes c.read_name-name.result) (meaning a.key)) (parse a.p a.places a.s.now).rows
 absent c = answer-is c.in-Nothing.is c.find_row.ensures
 
-found : (c : tie.In-At-2) →
-    let a = c.before.before.before.args in
-    some c.i-1.given.0.0 ≡ place_of (is_row (text_bytes c.read_name.result) (meaning a.key)) (parse a.p a.places a.s.now).rows
-found c = answer-is c.i-1.given.1 c.find_row.ensures
+found : (c : tie.In-At) →
+    let a = c.args in
+    some c.in-At.i ≡ place_of (is_row (text_bytes c.read_name-name.result) (meaning a.key)) (parse a.p a.places a.s.now).rows
+found c = answer-is c.in-At.is c.find_row.ensures
 
 table-record-requires : tie.Need-table_record-requires
 table-record-requires c κs =
-    let b = c.before in
-    record-asked b.requires.0.store b.args.t b.requires.1
+    record-asked c.requires.0.store c.args.t c.requires.1
 
 read-name-requires : tie.Need-read_name-name-requires
 read-name-requires c κs =
-    let b = c.before in
-    name-fits b.requires.0.store b.args.t b.requires.1 c.table_record.ensures
+    name-fits c.requires.0.store c.args.t c.requires.1 c.table_record.ensures
 
 table-record-requires-2 : tie.Need-table_record-requires-2
 table-record-requires-2 c κs =
-    let b = c.before.before in
-    record-asked b.requires.0.store b.args.t b.requires.1
+    record-asked c.requires.0.store c.args.t c.requires.1
 
 key-column-requires : tie.Need-key_column-column-requires
 key-column-requires c κs =
-    let b = c.before.before in
-    key_fits b.requires.0.store b.args.t b.requires.1 c.table_record-2.ensures
+    key_fits c.requires.0.store c.args.t c.requires.1 c.table_record-2.ensures
 
 find-row-requires : tie.Need-find_row-requires
 find-row-requires c κs =
-    let b = c.before.before.before in
-    let n = c.read_name.ensures in (
-      b.requires.0.store,
-      its-key b.requires.0.store b.args.t b.requires.1 c.table-record2.ensures c.key-column.ensures c.table-record.ensures n.0,
+    let n = c.read_name-name.ensures in (
+      c.requires.0.store,
+      its-key c.requires.0.store c.args.t c.requires.1 c.table_record-2.ensures c.key_column-column.ensures c.table_record.ensures n.0,
       n.1,
-      b.requires.2,
+      c.requires.2,
     )
 
 enum-known-i : tie.Need-enum_known-i
@@ -67,18 +61,16 @@ enum-known-i c = search rules
 
 note-stored-requires : tie.Need-note_stored-requires
 note-stored-requires c κs =
-    let b = c.before.before.before.before in
-    let n = named c.before.before.before.before.before.before.before.before in
+    let n = named c.before.before.before.before.before in
     let f = found c.before in (
-      b.requires.0.store,
-      row_below b.requires.0 b.args.t b.requires.1 n (meaning b.args.key) f,
-      roomy_of b.requires.0 (one_place b.requires.0 b.args.t b.requires.1 n (meaning b.args.key) f b.requires.3),
+      c.requires.0.store,
+      row_below c.requires.0 c.args.t c.requires.1 n (meaning c.args.key) f,
+      roomy_of c.requires.0 (one_place c.requires.0 c.args.t c.requires.1 n (meaning c.args.key) f c.requires.3),
     )
 
 remove-row-requires : tie.Need-remove_row-requires
 remove-row-requires c κs =
-    let b = c.before.before.before.before in
-    (b.requires.0.store, row-its b.requires.0 b.args.t b.requires.1 (named c.before.before.before.before.before.before.before.before.before.before.before.before) (meaning b.args.key) (found c.before.before.before.before.before))
+    (c.requires.0.store, row-its c.requires.0 c.args.t c.requires.1 (named c.before.before.before.before.before.before.before.before.before) (meaning c.args.key) (found c.before.before.before.before.before))
 
 enum_told : tie.Need-enum_told-1
 enum_told c = search rules
@@ -91,8 +83,7 @@ same-length-2 c = search rules
 
 returns : tie.Need-returns-in-At
 returns c =
-    let b = c.before.before.before.before in
-    key-gone b.requires.0 b.args.t b.requires.1 (named c.before.before.before.before.before.before.before.before.before.before.before.before.before.before.before) (meaning b.args.key) (found c.before.before.before.before.before.before.before.before) b.requires.3 c.remove_row.ensures
+    key-gone c.requires.0 c.args.t c.requires.1 (named c.before.before.before.before.before.before.before.before.before.before.before.before) (meaning c.args.key) (found c.before.before.before.before.before.before.before.before) c.requires.3 c.remove_row.ensures
     c.note_stored.ensures
 
 same-length-3 : tie.Need-shape_of-s-in-Nothing
@@ -100,8 +91,7 @@ same-length-3 c = search rules
 
 returns-2 : tie.Need-returns-in-Nothing
 returns-2 c =
-    let b = c.before.before.before in
-    key-absent b.requires.0 b.args.t b.requires.1 (named c.before.before.before.before.before.before) (meaning b.args.key) (absent c)
+    key-absent c.requires.0 c.args.t c.requires.1 (named c.before.before.before.before) (meaning c.args.key) (absent c)
 
 pub remove_key_spec : {M : Type 1} → statement M
 remove_key_spec =

@@ -17,9 +17,8 @@ decreases-loop s₀ p places j₀ t rec at count left₀ next₀ s j left next =
 
 loop-holds : tie.Need-loop-left-init invariant-loop decreases-loop
 loop-holds c =
-    let b = c.before.before.before in
-    let a = b.args in
-    keys-start a.p a.places a.s.now a.j.now a.t a.rec.now a.at a.count b.requires.0 b.requires.1 b.requires.2
+    let a = c.args in
+    keys-start a.p a.places a.s.now a.j.now a.t a.rec.now a.at a.count c.requires.0 c.requires.1 c.requires.2
 
 value-at-requires : tie.Need-value_at-requires invariant-loop decreases-loop
 value-at-requires c κs = search rules
@@ -29,18 +28,16 @@ enum-known-cell c = search rules
 
 remove-key-requires : tie.Need-remove_key-requires invariant-loop decreases-loop
 remove-key-requires c κs =
-    let l = c.before.before.before.before.before in
     let a = c.args in
     let h = c.loop-left-test.true in
     let r = c.value_at in
-    let g = c in
-    let x = l.loop-left.invariant in (
+    let x = c.loop-left.invariant in (
       x.books,
       x.known,
-      subst ProperRead g.in-Got.is r.ensures.proper,
-      keys-room a.p a.places a.s.now a.j.now a.t a.rec.now a.at a.count l.loop-left.s l.loop-left.j l.loop-left.left l.loop-left.next x h (held g.in-Got.cell)
-          g.in-Got.end
-          (values-got a.rec.now l.loop-left.left l.loop-left.next r.result r.ensures h g.in-Got.cell g.in-Got.end g.in-Got.is),
+      subst ProperRead c.in-Got.is r.ensures.proper,
+      keys-room a.p a.places a.s.now a.j.now a.t a.rec.now a.at a.count c.loop-left.s c.loop-left.j c.loop-left.left c.loop-left.next x h (held c.in-Got.cell)
+          c.in-Got.end
+          (values-got a.rec.now c.loop-left.left c.loop-left.next r.result r.ensures h c.in-Got.cell c.in-Got.end c.in-Got.is),
     )
 
 enum_told : tie.Need-enum_told-1 invariant-loop decreases-loop
@@ -57,11 +54,10 @@ same-length-2 c = omega (arith, c.loop-left.invariant.places)
 
 returns : tie.Need-returns-in-Broken invariant-loop decreases-loop
 returns c =
-    let l = c.before.before.before in
     let a = c.args in
     let r = c.value_at in
-    keys-end a.p a.places a.s.now a.j.now a.t a.rec.now a.at a.count l.loop-left.s l.loop-left.j l.loop-left.left l.loop-left.next l.loop-left.invariant
-    (values-broken a.rec.now l.loop-left.left l.loop-left.next r.result r.ensures _ c.in-Broken.is)
+    keys-end a.p a.places a.s.now a.j.now a.t a.rec.now a.at a.count c.loop-left.s c.loop-left.j c.loop-left.left c.loop-left.next c.loop-left.invariant
+    (values-broken a.rec.now c.loop-left.left c.loop-left.next r.result r.ensures _ c.in-Broken.is)
 
 sub-left : tie.Need-overflow_sub-left invariant-loop decreases-loop
 sub-left c = omega (arith, c.loop-left-test.true)
@@ -71,17 +67,15 @@ loop-less c = omega (arith, c.loop-left-test.true)
 
 loop-again : tie.Need-loop-left-preserved invariant-loop decreases-loop
 loop-again c =
-    let l = c.before.before.before.before.before.before.before.before.before.before in
     let a = c.args in
     let h = c.loop-left-test.true in
     let r = c.value_at in
-    let g = c in
     let k = c.remove_key in
-    keys-next a.p a.places a.s.now a.j.now a.t a.rec.now a.at a.count l.loop-left.s l.loop-left.j l.loop-left.left l.loop-left.next l.loop-left.invariant h (held g.in-Got.cell)
-    g.in-Got.end
-    (values-got a.rec.now l.loop-left.left l.loop-left.next r.result r.ensures h g.in-Got.cell g.in-Got.end g.in-Got.is)
-    k.new.0
-    k.new.1.1.1.0
+    keys-next a.p a.places a.s.now a.j.now a.t a.rec.now a.at a.count c.loop-left.s c.loop-left.j c.loop-left.left c.loop-left.next c.loop-left.invariant h (held c.in-Got.cell)
+    c.in-Got.end
+    (values-got a.rec.now c.loop-left.left c.loop-left.next r.result r.ensures h c.in-Got.cell c.in-Got.end c.in-Got.is)
+    k.new.s
+    k.new.j
     k.ensures.0
 
 same-length-3 : tie.Need-shape_of-s invariant-loop decreases-loop
@@ -92,11 +86,10 @@ same-length-4 c = omega (arith, c.loop-left.invariant.places)
 
 returns-2 : tie.Need-returns invariant-loop decreases-loop
 returns-2 c =
-    let l = c.before in
     let a = c.args in
     let e =
-    keys-end a.p a.places a.s.now a.j.now a.t a.rec.now a.at a.count l.loop-left.s l.loop-left.j l.loop-left.left l.loop-left.next l.loop-left.invariant
-    (values-end a.rec.now l.loop-left.left l.loop-left.next (λ h. omega (arith, c.loop-left-test.false)))
+    keys-end a.p a.places a.s.now a.j.now a.t a.rec.now a.at a.count c.loop-left.s c.loop-left.j c.loop-left.left c.loop-left.next c.loop-left.invariant
+    (values-end a.rec.now c.loop-left.left c.loop-left.next (λ h. omega (arith, c.loop-left-test.false)))
     in
     (e.0, omega (arith, e.1, c.loop-left-test.false))
 

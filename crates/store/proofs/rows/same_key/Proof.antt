@@ -5,7 +5,6 @@ use mathlib.Core.Option.{none, some}
 use Prim.Native.Nat.{◌<◌}
 use native.Mathlib.Omega.{arith}
 use lib.ListN.{get_or}
-use borrow.Author.Tests.{not-true, not-false}
 use Rattle.values.specs.Meaning.{text_bytes, held}
 use Rattle.rules.specs.Journal.{lacks}
 use Rattle.rules.specs.State.{is_row, key_of}
@@ -25,51 +24,47 @@ use Rattle.store.proofs.rows.same_key.Tie as tie
 
 -- the row passes, and there is a place
 free : (c : tie.Else-not-is_accepted) →
-    let a = c.before.args in
+    let a = c.args in
     row_fault a.p a.places (parse a.p a.places a.s.now) (table_in a.p a.places a.s.now a.t) true (cells_of a.row) ≡ none
 free c =
-    let b = c.before in
-    passes b.requires.0 b.requires.1 true c.validate_row-f.ensures (sym c.is_accepted.ensures ∙ not-false _ c.if-not-is_accepted.false)
+    passes c.requires.0 c.requires.1 true c.validate_row-f.ensures (sym c.is_accepted.ensures ∙ c.if-not-is_accepted.false)
 
 room : (c : tie.Else-not-has_places) →
-    let a = c.before.before.args in
+    let a = c.args in
     lacks (books_of a.p a.places a.s.now a.j.now).journal 1 ≡ false
-room c = has_room (laid-books c.before.before.requires.0) 1 c.has_places.ensures (not-false _ c.if-not-has_places.false)
+room c = has_room (laid-books c.requires.0) 1 c.has_places.ensures c.if-not-has_places.false
 
 -- the name and the key that its old row is looked for by
 named : (c : tie.After-read_name-name) →
-    let a = c.before.before.before.args in
+    let a = c.args in
     text_bytes c.read_name-name.result ≡ (table_in a.p a.places a.s.now a.t).name
 named c =
-    let b = c.before.before.before in
-    its-name (laid-books b.requires.0).store b.args.t b.requires.1.known c.table_record.ensures c.read_name-name.ensures.0
+    its-name (laid-books c.requires.0).store c.args.t c.requires.1.known c.table_record.ensures c.read_name-name.ensures.0
 
 keyed : (c : tie.After-key_column-column) →
-    let a = c.before.before.before.before.args in
+    let a = c.args in
     held (get_or a.row.cells c.key_column-column.result blank) ≡ key_of (table_in a.p a.places a.s.now a.t) (cells_of a.row)
 keyed c =
-    let b = c.before.before.before.before in
-    key-held (laid-books b.requires.0).store b.args.t b.requires.1.known c.table_record-2.ensures c.key_column-column.ensures b.requires.1
+    key-held (laid-books c.requires.0).store c.args.t c.requires.1.known c.table_record-2.ensures c.key_column-column.ensures c.requires.1
 
 few : (c : tie.After-key_column-column) → c.key_column-column.result < 8
 few c =
-    let b = c.before.before.before.before in
-    key-few (laid-books b.requires.0).store b.args.t b.requires.1.known c.table_record-2.ensures c.key_column-column.ensures b.requires.1
+    key-few (laid-books c.requires.0).store c.args.t c.requires.1.known c.table_record-2.ensures c.key_column-column.ensures c.requires.1
 
 -- there is none, or the one at place i
 absent : (c : tie.In_default) →
-    let a = c.before.before.before.before.before.args in
-    none ≡ place_of (is_row (text_bytes c.read_name.result) (held (get_or a.row.cells c.key-column.result blank))) (parse a.p a.places a.s.now).rows
+    let a = c.args in
+    none ≡ place_of (is_row (text_bytes c.read_name-name.result) (held (get_or a.row.cells c.key_column-column.result blank))) (parse a.p a.places a.s.now).rows
 absent c = answer-is c.in_default.is c.find_row.ensures
 
-found : (c : tie.In-At-2) →
-    let a = c.before.before.before.before.before.args in
-    some c.i-1.given.0.0
-    ≡ place_of (is_row (text_bytes c.read_name.result) (held (get_or a.row.cells c.key-column.result blank))) (parse a.p a.places a.s.now).rows
-found c = answer-is c.i-1.given.1 c.find_row.ensures
+found : (c : tie.In-At) →
+    let a = c.args in
+    some c.in-At.i
+    ≡ place_of (is_row (text_bytes c.read_name-name.result) (held (get_or a.row.cells c.key_column-column.result blank))) (parse a.p a.places a.s.now).rows
+found c = answer-is c.in-At.is c.find_row.ensures
 
 validate-row-requires : tie.Need-validate_row-f-requires
-validate-row-requires c κs = let b = c.before in (b.requires.0.store, b.requires.1)
+validate-row-requires c κs = (c.requires.0.store, c.requires.1)
 
 is-accepted-requires : tie.Need-is_accepted-requires
 is-accepted-requires c κs = search rules
@@ -82,13 +77,12 @@ same_length c = search rules
 
 returns : tie.Need-returns-then-not-is_accepted
 returns c =
-    let b = c.before in
-    same-refused b.requires.0 b.requires.1 c.validate_row-f.ensures (sym c.is_accepted.ensures ∙ not-true _ c.if-not-is_accepted.true) b.args.n
+    same-refused c.requires.0 c.requires.1 c.validate_row-f.ensures (sym c.is_accepted.ensures ∙ c.if-not-is_accepted.true) c.args.n
     c.refused.result
     c.refused.ensures
 
 has-places-requires : tie.Need-has_places-requires
-has-places-requires c κs = paged-of (laid-books c.before.before.requires.0)
+has-places-requires c κs = paged-of (laid-books c.requires.0)
 
 refused-requires-2 : tie.Need-refused-requires-then-not-has_places
 refused-requires-2 c κs = search rules
@@ -101,30 +95,25 @@ same-length-3 c = search rules
 
 returns-2 : tie.Need-returns-then-not-has_places
 returns-2 c =
-    let b = c.before.before in
-    same_full b.requires.0 b.requires.1 (free c.before.before.before.before) (no_room (laid-books b.requires.0) 1 c.has_places.ensures (not-true _ c.if-not-has_places.true)) b.args.n
+    same_full c.requires.0 c.requires.1 (free c.before.before.before) (no_room (laid-books c.requires.0) 1 c.has_places.ensures c.if-not-has_places.true) c.args.n
     c.refused-then-not-has_places.result
     c.refused-then-not-has_places.ensures
 
 table-record-requires : tie.Need-table_record-requires
 table-record-requires c κs =
-    let b = c.before.before.before in
-    record-asked (laid-books b.requires.0).store b.args.t b.requires.1.known
+    record-asked (laid-books c.requires.0).store c.args.t c.requires.1.known
 
 read-name-requires : tie.Need-read_name-name-requires
 read-name-requires c κs =
-    let b = c.before.before.before in
-    name-fits (laid-books b.requires.0).store b.args.t b.requires.1.known c.table_record.ensures
+    name-fits (laid-books c.requires.0).store c.args.t c.requires.1.known c.table_record.ensures
 
 table-record-requires-2 : tie.Need-table_record-requires-2
 table-record-requires-2 c κs =
-    let b = c.before.before.before.before in
-    record-asked (laid-books b.requires.0).store b.args.t b.requires.1.known
+    record-asked (laid-books c.requires.0).store c.args.t c.requires.1.known
 
 key-column-requires : tie.Need-key_column-column-requires
 key-column-requires c κs =
-    let b = c.before.before.before.before in
-    key_fits (laid-books b.requires.0).store b.args.t b.requires.1.known c.table_record-2.ensures
+    key_fits (laid-books c.requires.0).store c.args.t c.requires.1.known c.table_record-2.ensures
 
 mul-k : tie.Need-offset_bounds-cells-column
 mul-k c = let l = few c.before in omega arith
@@ -134,14 +123,13 @@ array-copy-out-k c = few c.before
 
 find-row-requires : tie.Need-find_row-requires
 find-row-requires c κs =
-    let b = c.before.before.before.before.before in
-    let n = c.read_name.ensures in
-    let r = c.table-record2.ensures in
-    let k = c.key-column.ensures in (
-      (laid-books b.requires.0).store,
-      its-key (laid-books b.requires.0).store b.args.t b.requires.1.known r k c.table-record.ensures n.0,
+    let n = c.read_name-name.ensures in
+    let r = c.table_record-2.ensures in
+    let k = c.key_column-column.ensures in (
+      (laid-books c.requires.0).store,
+      its-key (laid-books c.requires.0).store c.args.t c.requires.1.known r k c.table_record.ensures n.0,
       n.1,
-      key-proper (laid-books b.requires.0).store b.args.t b.requires.1.known r k b.requires.1,
+      key-proper (laid-books c.requires.0).store c.args.t c.requires.1.known r k c.requires.1,
     )
 
 enum-known-i : tie.Need-enum_known-i
@@ -161,26 +149,23 @@ same-length-5 c = search rules
 
 returns-3 : tie.Need-returns-in_default
 returns-3 c =
-    let b = c.before.before.before.before.before in
-    same-nothing b.requires.0 b.requires.1 (free c.before.before.before.before.before.before.before.before.before.before.before.before.before.before.before) (room c.before.before.before.before.before.before.before.before.before.before.before.before) (named c.before.before.before.before.before.before.before.before.before) (keyed c.before.before.before.before.before.before) (absent c.before) b.args.n c.accepted.result
+    same-nothing c.requires.0 c.requires.1 (free c.before.before.before.before.before.before.before.before.before.before.before) (room c.before.before.before.before.before.before.before.before.before) (named c.before.before.before.before.before.before.before) (keyed c.before.before.before.before.before) (absent c.before) c.args.n c.accepted.result
     c.accepted.ensures
 
 note-stored-requires : tie.Need-note_stored-requires
 note-stored-requires c κs =
-    let b = c.before.before.before.before.before.before in
-    let l = laid-books b.requires.0 in (
+    let l = laid-books c.requires.0 in (
       l.store,
-      row-there b.requires.0 b.requires.1 (free c.before.before.before.before.before.before.before.before.before.before.before.before.before.before.before.before) (room c.before.before.before.before.before.before.before.before.before.before.before.before.before) (named c.before.before.before.before.before.before.before.before.before.before) (keyed c.before.before.before.before.before.before.before) (found c.before),
-      roomy_of l (room c.before.before.before.before.before.before.before.before.before.before.before.before.before),
+      row-there c.requires.0 c.requires.1 (free c.before.before.before.before.before.before.before.before.before.before.before) (room c.before.before.before.before.before.before.before.before.before) (named c.before.before.before.before.before.before.before) (keyed c.before.before.before.before.before) (found c.before),
+      roomy_of l (room c.before.before.before.before.before.before.before.before.before),
     )
 
 replace-row-requires : tie.Need-replace_row-requires
-replace-row-requires c κs =
-    let b = c.before.before.before.before.before.before in (
-      (laid-books b.requires.0).store,
-      b.requires.1.proper,
-      row-replaceable b.requires.0 b.requires.1 (free c.before.before.before.before.before.before.before.before.before.before.before.before.before.before.before.before.before.before.before.before) (room c.before.before.before.before.before.before.before.before.before.before.before.before.before.before.before.before.before) (named c.before.before.before.before.before.before.before.before.before.before.before.before.before.before) (keyed c.before.before.before.before.before.before.before.before.before.before.before) (found c.before.before.before.before.before),
-    )
+replace-row-requires c κs = (
+  (laid-books c.requires.0).store,
+  c.requires.1.proper,
+  row-replaceable c.requires.0 c.requires.1 (free c.before.before.before.before.before.before.before.before.before.before.before.before.before.before.before) (room c.before.before.before.before.before.before.before.before.before.before.before.before.before) (named c.before.before.before.before.before.before.before.before.before.before.before) (keyed c.before.before.before.before.before.before.before.before.before) (found c.before.before.before.before.before),
+)
 
 accepted-requires-2 : tie.Need-accepted-requires-2
 accepted-requires-2 c κs = search rules
@@ -193,9 +178,8 @@ same-length-7 c = search rules
 
 returns-4 : tie.Need-returns
 returns-4 c =
-    let b = c.before.before.before.before.before.before in
-    row-replaced b.requires.0 b.requires.1 (free c.before.before.before.before.before.before.before.before.before.before.before.before.before.before.before.before.before.before.before.before.before.before.before.before) (room c.before.before.before.before.before.before.before.before.before.before.before.before.before.before.before.before.before.before.before.before.before) (named c.before.before.before.before.before.before.before.before.before.before.before.before.before.before.before.before.before.before) (keyed c.before.before.before.before.before.before.before.before.before.before.before.before.before.before.before) (found c.before.before.before.before.before.before.before.before.before) c.replace_row.ensures
-    c.note_stored.ensures b.args.n c.accepted-2.result
+    row-replaced c.requires.0 c.requires.1 (free c.before.before.before.before.before.before.before.before.before.before.before.before.before.before.before.before.before.before.before) (room c.before.before.before.before.before.before.before.before.before.before.before.before.before.before.before.before.before) (named c.before.before.before.before.before.before.before.before.before.before.before.before.before.before.before) (keyed c.before.before.before.before.before.before.before.before.before.before.before.before.before) (found c.before.before.before.before.before.before.before.before.before) c.replace_row.ensures
+    c.note_stored.ensures c.args.n c.accepted-2.result
     c.accepted-2.ensures
 
 pub same_key_spec : {M : Type 1} → statement M

@@ -16,25 +16,21 @@ use Rattle.store.proofs.rows.update.Tie as tie
 -- the row's key
 few : (c : tie.After-key_column-column) → c.key_column-column.result < 8
 few c =
-    let b = c.before in
-    key-few (laid-books b.requires.0).store b.args.t b.requires.1.known c.table_record.ensures c.key_column-column.ensures b.requires.1
+    key-few (laid-books c.requires.0).store c.args.t c.requires.1.known c.table_record.ensures c.key_column-column.ensures c.requires.1
 
 keyed : (c : tie.After-key_column-column) →
-    let a = c.before.args in
+    let a = c.args in
     held (get_or a.row.cells c.key_column-column.result blank) ≡ key_of (table_in a.p a.places a.s.now a.t) (cells_of a.row)
 keyed c =
-    let b = c.before in
-    key-held (laid-books b.requires.0).store b.args.t b.requires.1.known c.table_record.ensures c.key_column-column.ensures b.requires.1
+    key-held (laid-books c.requires.0).store c.args.t c.requires.1.known c.table_record.ensures c.key_column-column.ensures c.requires.1
 
 table-record-requires : tie.Need-table_record-requires
 table-record-requires c κs =
-    let b = c.before in
-    record-asked (laid-books b.requires.0).store b.args.t b.requires.1.known
+    record-asked (laid-books c.requires.0).store c.args.t c.requires.1.known
 
 key-column-requires : tie.Need-key_column-column-requires
 key-column-requires c κs =
-    let b = c.before in
-    key_fits (laid-books b.requires.0).store b.args.t b.requires.1.known c.table_record.ensures
+    key_fits (laid-books c.requires.0).store c.args.t c.requires.1.known c.table_record.ensures
 
 mul-k : tie.Need-offset_bounds-cells-column
 mul-k c = let l = few c.before in omega arith
@@ -44,13 +40,11 @@ array-copy-out-k c = few c.before
 
 is-same-requires : tie.Need-is_same-requires
 is-same-requires c κs =
-    let b = c.before in
-    (b.requires.2, key-proper (laid-books b.requires.0).store b.args.t b.requires.1.known c.table_record.ensures c.key_column-column.ensures b.requires.1)
+    (c.requires.2, key-proper (laid-books c.requires.0).store c.args.t c.requires.1.known c.table_record.ensures c.key_column-column.ensures c.requires.1)
 
 same-key-requires : tie.Need-same_key-requires
 same-key-requires c κs =
-    let b = c.before in
-    (b.requires.0, b.requires.1)
+    (c.requires.0, c.requires.1)
 
 same_length : tie.Need-shape_of-s-then-is_same
 same_length c = search rules
@@ -60,11 +54,10 @@ same-length-2 c = search rules
 
 returns : tie.Need-returns-then-is_same
 returns c =
-    let b = c.before in
-    pair-with-same b.requires.0 b.requires.1 (meaning b.args.old) (keyed c.before.before.before.before.before.before.before.before.before.before.before) b.args.n (sym c.is_same.ensures ∙ c.if-is_same.true) c.same_key.ensures
+    pair-with-same c.requires.0 c.requires.1 (meaning c.args.old) (keyed c.before.before.before.before.before.before.before.before.before.before.before) c.args.n (sym c.is_same.ensures ∙ c.if-is_same.true) c.same_key.ensures
 
 other-key-requires : tie.Need-other_key-requires
-other-key-requires c κs = c.before.requires
+other-key-requires c κs = c.requires
 
 same-length-3 : tie.Need-shape_of-s
 same-length-3 c = search rules
@@ -74,8 +67,7 @@ same-length-4 c = search rules
 
 returns-2 : tie.Need-returns
 returns-2 c =
-    let b = c.before in
-    pair-with-other b.requires.0 b.requires.1 (meaning b.args.old) (keyed c.before.before.before.before.before.before.before.before.before.before.before) b.args.n (sym c.is_same.ensures ∙ c.if-is_same.false) c.other_key.ensures
+    pair-with-other c.requires.0 c.requires.1 (meaning c.args.old) (keyed c.before.before.before.before.before.before.before.before.before.before.before) c.args.n (sym c.is_same.ensures ∙ c.if-is_same.false) c.other_key.ensures
 
 pub update_spec : {M : Type 1} → statement M
 update_spec =

@@ -5,7 +5,6 @@ use Prim.Native.Nat.{◌≤◌}
 use native.Mathlib.Omega.{arith}
 use lib.ListN.{length}
 use borrow.Author.Rules.{rules}
-use borrow.Author.Tests.{not-true, not-false}
 use Rattle.rules.specs.State.{Table}
 use Rattle.rules.specs.Layout.{parse}
 use Rattle.laid.proofs.Columns.{record-least}
@@ -34,8 +33,7 @@ shared-slice-read-if1 c = omega (arith, least c.before.before.before)
 
 returns : tie.Need-returns-then-rec-eq0
 returns c =
-    let b = c.before.before.before.before in
-    table-unnamed b.args.p b.args.rec.now b.requires.1 (tables b) c.if-rec-eq0.true
+    table-unnamed c.args.p c.args.rec.now c.requires.1 (tables c.before.before.before.before) c.if-rec-eq0.true
 
 shared-slice-read-count : tie.Need-bounds-rec-26
 shared-slice-read-count c = omega (arith, least (start c.before))
@@ -45,9 +43,8 @@ cast-count c = omega (arith, c.shared_slice_known-4-1.given 26)
 
 returns-2 : tie.Need-returns-then-count-eq0
 returns-2 c =
-    let e = c.before.before in
-    let b = start e in
-    columns-none b.args.p b.args.rec.now b.requires.1 (tables b) e.if-rec-eq0.false c.if-count-eq0.true
+    let b = start c.before.before in
+    columns-none b.args.p b.args.rec.now b.requires.1 (tables b) c.if-rec-eq0.false c.if-count-eq0.true
 
 shared-slice-read-if3 : tie.Need-bounds-rec-25
 shared-slice-read-if3 c = omega (arith, least (start (named c.before)))
@@ -57,10 +54,9 @@ cast-if3 c = omega (arith, c.shared_slice_known-5-1.given 25)
 
 returns-3 : tie.Need-returns-then-count-rec
 returns-3 c =
-    let d = c.before.before in
-    let e = named d in
+    let e = named c.before.before in
     let b = start e in
-    key-beyond b.args.p b.args.rec.now b.requires.1 (tables b) e.if-rec-eq0.left d.if-count-eq0.false c.if-count-rec.true
+    key-beyond b.args.p b.args.rec.now b.requires.1 (tables b) e.if-rec-eq0.false c.if-count-eq0.false c.if-count-rec.true
 
 columns-fault-requires : tie.Need-columns_fault-f-requires
 columns-fault-requires c κs = (start (named (counted c))).requires
@@ -70,27 +66,22 @@ is-accepted-requires c κs = search rules
 
 returns-4 : tie.Need-returns-then-not-is_accepted
 returns-4 c =
-    let f = c.before.before in
-    let k = f.before in
-    let d = counted k in
+    let d = counted c.before.before.before in
     let e = named d in
     let b = start e in
-    columns-refuse b.args.p b.args.rec.now b.requires.1 (tables b) e.if-rec-eq0.left d.if-count-eq0.left k.if-count-rec.false f.columns_fault-f.result f.columns_fault-f.ensures
-    (sym c.is_accepted.ensures ∙ not-true _ c.if-not-is_accepted.true)
+    columns-refuse b.args.p b.args.rec.now b.requires.1 (tables b) e.if-rec-eq0.false d.if-count-eq0.false c.if-count-rec.false c.columns_fault-f.result c.columns_fault-f.ensures
+    (sym c.is_accepted.ensures ∙ c.if-not-is_accepted.true)
 
 repeat-fault-requires : tie.Need-repeat_fault-requires
 repeat-fault-requires c κs = (start (named (counted c.before.before.before))).requires.1
 
 returns-5 : tie.Need-returns
 returns-5 c =
-    let g = c.before in
-    let f = g.before.before in
-    let k = f.before in
-    let d = counted k in
+    let d = counted c.before.before.before.before in
     let e = named d in
     let b = start e in
-    repeats-decide b.args.p b.args.rec.now b.requires.1 (tables b) e.if-rec-eq0.left d.if-count-eq0.left k.if-count-rec.false f.columns_fault-f.result f.columns_fault-f.ensures
-    (sym g.is_accepted.ensures ∙ not-false _ g.if-not-is_accepted.false)
+    repeats-decide b.args.p b.args.rec.now b.requires.1 (tables b) e.if-rec-eq0.false d.if-count-eq0.false c.if-count-rec.false c.columns_fault-f.result c.columns_fault-f.ensures
+    (sym c.is_accepted.ensures ∙ c.if-not-is_accepted.false)
     c.repeat_fault.result
     c.repeat_fault.ensures
 

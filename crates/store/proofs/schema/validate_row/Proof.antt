@@ -7,7 +7,6 @@ use Prim.Native.Nat.{◌<◌}
 use native.Mathlib.Omega.{arith}
 use lib.ListN.{get_or}
 use borrow.Author.Rules.{rules}
-use borrow.Author.Tests.{not-true, not-false}
 use Rattle.values.specs.Value.{Value, is_undefined}
 use Rattle.values.specs.Meaning.{text_bytes, held}
 use Rattle.rules.specs.State.{Table, State, has_row, key_of}
@@ -73,22 +72,19 @@ allowed : (c : tie.Joined-not-update) → (not (start (read c.before)).args.upda
 allowed c =
     let u = (start (read c.before)).args.update in
     let x = c.is_stored-stored.result in
-    ⊎_elim (λ w. key-new u x (w.0.taken, w.1.left)) (λ w. key-own u x w.left) c.if-not-update.branch-raw
+    ⊎_elim (λ w. key-new u x (ap not w.if-not-update.true, w.if-stored.false)) (λ w. key-own u x (ap not w.if-not-update.false)) c.if-not-update.branch-raw
 
 table-record-requires : tie.Need-table_record-rec-requires
 table-record-requires c κs =
-    let b = c.before in
-    record-asked (laid_out_lem b) b.args.t b.requires.1.known
+    record-asked (laid_out_lem c.before) c.args.t c.requires.1.known
 
 read-name-requires : tie.Need-read_name-name-requires
 read-name-requires c κs =
-    let b = c.before.before in
-    name-fits (laid_out_lem b) b.args.t b.requires.1.known c.table_record-rec.ensures
+    name-fits (laid_out_lem c.before.before) c.args.t c.requires.1.known c.table_record-rec.ensures
 
 key-column-requires : tie.Need-key_column-at-requires
 key-column-requires c κs =
-    let b = c.before.before.before in
-    key_fits (laid_out_lem b) b.args.t b.requires.1.known c.table_record-rec.ensures
+    key_fits (laid_out_lem c.before.before.before) c.args.t c.requires.1.known c.table_record-rec.ensures
 
 mul-k : tie.Need-offset_bounds-cells-at
 mul-k c = let l = few c.before in omega arith
@@ -98,34 +94,30 @@ array-copy-out-k c = few c.before
 
 is-undefined-requires : tie.Need-is_undefined-requires
 is-undefined-requires c κs =
-    let k = c.before.before in
-    let b = start k in
-    key-proper (laid_out_lem b) b.args.t b.requires.1.known k.table_record-rec.ensures k.key_column-at.ensures b.requires.1
+    let b = start c.before.before in
+    key-proper (laid_out_lem b) b.args.t b.requires.1.known c.table_record-rec.ensures c.key_column-at.ensures b.requires.1
 
 returns : tie.Need-returns-then-is_undefined
 returns c =
-    let k = c.before.before.before.before in
-    let b = start k in
+    let b = start c.before.before.before.before in
     key-undefined b.args.p b.args.places (state b) (its b) b.args.update (values b)
-    (sym (ap is_undefined (keyed k)) ∙ sym c.is_undefined.ensures ∙ c.if-is_undefined.true)
+    (sym (ap is_undefined (keyed c.before.before.before.before)) ∙ sym c.is_undefined.ensures ∙ c.if-is_undefined.true)
 
 is-stored-requires : tie.Need-is_stored-stored-requires
 is-stored-requires c κs =
-    let k = c.before.before.before.before in
-    let r = k.table_record-rec.ensures in
-    let n = k.read_name-name.ensures in
-    let b = start k in (
+    let r = c.table_record-rec.ensures in
+    let n = c.read_name-name.ensures in
+    let b = start c.before.before.before.before in (
       laid_out_lem b,
-      its-key (laid_out_lem b) b.args.t b.requires.1.known r k.key_column-at.ensures r n.0,
+      its-key (laid_out_lem b) b.args.t b.requires.1.known r c.key_column-at.ensures r n.0,
       n.1,
-      key-proper (laid_out_lem b) b.args.t b.requires.1.known r k.key_column-at.ensures b.requires.1,
+      key-proper (laid_out_lem b) b.args.t b.requires.1.known r c.key_column-at.ensures b.requires.1,
     )
 
 returns-2 : tie.Need-returns-then-stored
 returns-2 c =
-    let x = c.before.before in
-    let b = start (read x) in
-    key-exists b.args.p b.args.places (state b) (its b) b.args.update (values b) (defined x.before) x.is_stored-stored.result (stored x) c.if-not-update.true
+    let b = start (read c.before.before) in
+    key-exists b.args.p b.args.places (state b) (its b) b.args.update (values b) (defined c.before.before.before) c.is_stored-stored.result (stored c.before.before) (ap not c.if-not-update.true)
     c.if-stored.true
 
 cells-fault-requires : tie.Need-cells_fault-f-requires
@@ -138,29 +130,22 @@ is-accepted-requires c κs = search rules
 
 returns-3 : tie.Need-returns-then-not-is_accepted
 returns-3 c =
-    let f = c.before.before in
-    let j = f.before in
-    let x = j.before in
-    let b = start (read x) in
-    cells-refuse b.args.p b.args.places (state b) (its b) b.args.update (values b) (defined x.before) x.is_stored-stored.result (stored x) (allowed j)
-    f.cells_fault-f.result
-    f.cells_fault-f.ensures
-    (sym c.is_accepted.ensures ∙ not-true _ c.if-not-is_accepted.true)
+    let b = start (read c.before.before.before.before) in
+    cells-refuse b.args.p b.args.places (state b) (its b) b.args.update (values b) (defined c.before.before.before.before.before) c.is_stored-stored.result (stored c.before.before.before.before) (allowed c.before.before.before)
+    c.cells_fault-f.result
+    c.cells_fault-f.ensures
+    (sym c.is_accepted.ensures ∙ c.if-not-is_accepted.true)
 
 place-fault-requires : tie.Need-place_fault-requires
 place-fault-requires c κs = laid_out_lem (start (read c.before.before.before.before))
 
 returns-4 : tie.Need-returns
 returns-4 c =
-    let d = c.before in
-    let f = d.before.before in
-    let j = f.before in
-    let x = j.before in
-    let b = start (read x) in
-    place-decides b.args.p b.args.places (state b) (its b) b.args.update (values b) (defined x.before) x.is_stored-stored.result (stored x) (allowed j)
-    f.cells_fault-f.result
-    f.cells_fault-f.ensures
-    (sym d.is_accepted.ensures ∙ not-false _ d.if-not-is_accepted.false)
+    let b = start (read c.before.before.before.before.before) in
+    place-decides b.args.p b.args.places (state b) (its b) b.args.update (values b) (defined c.before.before.before.before.before.before) c.is_stored-stored.result (stored c.before.before.before.before.before) (allowed c.before.before.before.before)
+    c.cells_fault-f.result
+    c.cells_fault-f.ensures
+    (sym c.is_accepted.ensures ∙ c.if-not-is_accepted.false)
     c.place_fault.result
     c.place_fault.ensures
 
