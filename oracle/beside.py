@@ -4,7 +4,7 @@
   beside.py STREAMS ANSWERS    each stream through `lent` over a fresh store and journal: lines and every byte of both afterwards;
                                and through `kiosk` where it has 70 row places and no journal place is missing (43): lines
 
-The programs must be built (`rt check kiosk lent`).
+The programs must be built (`./run --build kiosk lent`).
 """
 
 import sys

@@ -6,7 +6,7 @@
 
 Each count is that of `lent` with the request less that of `lent` with a record that is broken (1), under callgrind: the same on every run. `lent` tests
 store and journal first, which is in both and shown by itself: all less a run that is refused (38) at the first byte of the one that is tested.
-`valgrind` must be there, and `lent` built (`rt check lent`).
+`valgrind` must be there, and `lent` built (`./run --build lent`).
 """
 
 import os

@@ -1,8 +1,6 @@
-"""The built programs, run as the toolchain runs them: those of target/bin, or of the folder that SELUVAMA_PROGRAMS names."""
+"""The built programs: those that `./run --build NAME..` makes in crates/NAME/out, or of the folder that SELUVAMA_PROGRAMS names."""
 
 import os
-import platform
-import shutil
 import subprocess
 import threading
 import time
@@ -11,14 +9,9 @@ ROOT = os.path.join(os.path.dirname(os.path.abspath(__file__)), "..")
 
 
 def command(name):
-    """The words that start a program: under the toolchain's loader and, on a machine that is no x86-64, its emulator."""
-    kit = os.environ.get("RATTLE_HOME") or os.path.dirname(os.path.dirname(os.path.realpath(shutil.which("rt"))))
-    tools = os.path.join(kit, "on", platform.machine(), "toolchain")
-    emulator = os.path.join(tools, "bin", "qemu-x86_64")
-    words = [emulator] if os.access(emulator, os.X_OK) else []
-    library = os.path.join(tools, "lib")
-    folder = os.path.abspath(os.environ.get("SELUVAMA_PROGRAMS") or os.path.join(ROOT, "target", "bin"))
-    return words + [os.path.join(library, "ld-linux-x86-64.so.2"), "--library-path", library, os.path.join(folder, name)]
+    """The words that start a program."""
+    folder = os.environ.get("SELUVAMA_PROGRAMS") or os.path.join(ROOT, "crates", name, "out")
+    return [os.path.join(os.path.abspath(folder), name)]
 
 
 def kiosk(source):

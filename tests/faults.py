@@ -4,7 +4,7 @@ cut files, one name for two, full disks, closed pipes, closed standard files, ki
 
   faults.py [KILLS]    so many kills of `lent`, 10 if not said
 
-The programs are those of target/bin, or of the folder that SELUVAMA_PROGRAMS names.
+The programs are those that `./run --build kiosk lent` makes, or of the folder that SELUVAMA_PROGRAMS names.
 """
 
 import sys

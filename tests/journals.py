@@ -4,7 +4,7 @@ afterwards must be what the list says, and after 38 both must be as they were. S
 
   journals.py
 
-The programs are those of target/bin, or of the folder that SELUVAMA_PROGRAMS names.
+The programs are those that `./run --build kiosk lent` makes, or of the folder that SELUVAMA_PROGRAMS names.
 """
 
 import os

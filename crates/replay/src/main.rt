@@ -2,35 +2,39 @@
 // the journal's places, which is 0 where no batch comes, and of row places, two bytes each; the records, the lines, the store at the end, and where
 // the journal has places its bytes at the end, each of these after its length.
 #![tactic(auto)]
+
 ghost use Rattle.std.specs.Prelude.{◌≡◌, ◌≤◌, length};
 
-use libc::STDOUT_FILENO;
 use requests::entry;
 use requests::entry::Halt;
 use sound::fresh;
+use std::env;
+use std::fs::File;
+use std::io::Read;
+use std::rt::Files;
 use values::bytes;
 
 // The number that the next four bytes of a file spell; 0 at its end.
-fn four(fd: i32) -> usize {
+fn four<F: Read>(from: &mut F) -> usize {
     let mut s = [0u8; 4];
-    if io::read_full(fd, &mut s) < 4 {
-        return 0;
+    match from.read_exact(&mut s) {
+        Ok(()) => bytes::get(&s) as usize,
+        Err(_) => 0,
     }
-    bytes::get(&s) as usize
 }
 
 // The next part of a file, after its length, at the front of a buffer; returns how long it is, 0 where it does not fit.
-fn part(fd: i32, out: &mut [u8]) -> usize
+fn part<F: Read>(from: &mut F, out: &mut [u8]) -> usize
     ensures { (length out.new ≡ length out.old) × (result ≤ length out.old) }
 {
-    let n = four(fd);
+    let n = four(from);
     if out.len() < n {
         return 0;
     }
-    if io::read_full(fd, &mut out[0..n]) < n {
-        return 0;
+    match from.read_exact(&mut out[0..n]) {
+        Ok(()) => n,
+        Err(_) => 0,
     }
-    n
 }
 
 // Whether the records over a fresh store and the zeros of a journal give the lines and leave the bytes.
@@ -42,7 +46,7 @@ fn agrees(
     after: &[u8],
     left: &[u8],
 ) -> bool {
-    let mut out = io::large_buffer();
+    let mut out = [0u8; 65536];
     fresh::fresh(store);
     let r = entry::many(store, journal, records, true, 0, &mut out);
     let halt = r.halt;
@@ -75,7 +79,7 @@ fn pages() -> [u8; 16383]
 }
 
 // One case with R row places, 1 to 70, and J places of the journal, 0 to 70. Where J is 0, one with a single place is lent and stays zeros.
-fn case(fd: i32, places: usize, batch: usize) -> bool
+fn case<F: Read>(from: &mut F, places: usize, batch: usize) -> bool
     requires places_bound { places ≤ 70 }
     requires batch_bound { batch ≤ 70 }
 {
@@ -83,11 +87,11 @@ fn case(fd: i32, places: usize, batch: usize) -> bool
     let mut after = room();
     let mut journal = pages();
     let mut left = pages();
-    let mut records = io::large_buffer();
-    let mut lines = io::large_buffer();
-    let n = part(fd, &mut records);
-    let m = part(fd, &mut lines);
-    let k = part(fd, &mut after);
+    let mut records = [0u8; 65536];
+    let mut lines = [0u8; 65536];
+    let n = part(from, &mut records);
+    let m = part(from, &mut lines);
+    let k = part(from, &mut after);
     let size = 10428 + 779 * places;
     if batch == 0 {
         return agrees(
@@ -99,7 +103,7 @@ fn case(fd: i32, places: usize, batch: usize) -> bool
             &left[0..237],
         );
     }
-    let l = part(fd, &mut left);
+    let l = part(from, &mut left);
     let pages = 3 + 234 * batch;
     agrees(
         &mut store[0..size],
@@ -118,20 +122,20 @@ struct Tally {
 }
 
 // All cases of a list.
-fn all_cases(fd: i32) -> Tally {
+fn all_cases<F: Read>(from: &mut F) -> Tally {
     let mut t = Tally {
         agree: 0,
         differ: 0,
     };
     let mut left: u64 = 1000000;
     while 0 < left {
-        let sizes = four(fd);
+        let sizes = four(from);
         let batch = sizes / 65536;
         let places = sizes % 65536;
         if places < 1 || 70 < places || 70 < batch {
             return t;
         }
-        if case(fd, places, batch) {
+        if case(from, places, batch) {
             t.agree += 1;
         } else {
             t.differ += 1;
@@ -141,30 +145,30 @@ fn all_cases(fd: i32) -> Tally {
     t
 }
 
-// The list that argument i names.
-fn replay(i: usize) {
-    let mut path = io::buffer();
-    let n = os::arg(i, &mut path);
-    let fd = os::open_read(&path[..n]);
-    if fd < 0 {
-        os::fail(&path[..n]);
-        return;
+// The list of a name.
+fn replay<R: Files + Print + Eprint>(rt: &R, path: &str) {
+    match File::open(rt, path) {
+        Ok(mut list) => {
+            let t = all_cases(&mut list);
+            let agree = t.agree;
+            let differ = t.differ;
+            let _told = println!(rt; "{path} agree {agree} differ {differ}");
+        }
+        Err(e) => {
+            let _told = eprintln!(rt; "{path}: {e}");
+        }
     }
-    let t = all_cases(fd);
-    libc::close(fd);
-    io::write_all(STDOUT_FILENO, &path[..n]);
-    io::write_all(STDOUT_FILENO, b" agree ");
-    io::print_decimal(STDOUT_FILENO, t.agree);
-    io::write_all(STDOUT_FILENO, b" differ ");
-    io::print_decimal(STDOUT_FILENO, t.differ);
-    io::write_all(STDOUT_FILENO, b"\n");
 }
 
-fn main() {
-    let count = os::arg_count();
-    let mut i = 1;
-    while i < count {
-        replay(i);
-        i += 1;
+fn main(rt: HostRuntime) {
+    match env::args(&rt) {
+        Ok(words) => {
+            for path in words.skip(1) {
+                replay(&rt, &path);
+            }
+        }
+        Err(e) => {
+            let _told = eprintln!(rt; "replay: the names of the lists can't be read: {e}");
+        }
     }
 }
