@@ -8,7 +8,7 @@ import threading
 import time
 
 from lent_faults import BACK, KEEP, OPEN, STORE, judged
-from room import EMULATED, ROOT, Room, command, disk, shown
+from room import ROOT, Room, command, disk, shown
 
 from cases import column, key, name, values  # noqa: E402
 from packed import text  # noqa: E402
@@ -117,9 +117,6 @@ def outputs(tally):
 
 def without_standard_files(tally):
     """No file that is opened may take the number of one that is closed: answers and messages would go into it."""
-    if EMULATED:
-        print("--    kiosk: started without standard files: left out under the emulator")
-        return
     for words in ((), ("log",)):
         for closed in ([0], [1], [2], [1, 2], [0, 1, 2]):
             changed = {"log": b"" if 0 in closed else SHEET} if words else {}

@@ -7,7 +7,7 @@ import signal
 import subprocess
 import time
 
-from room import EMULATED, ROOT, Room, Said, command, compared, disk, shown
+from room import ROOT, Room, Said, command, compared, disk, shown
 
 from journal import journal_size  # noqa: E402
 from layout import image  # noqa: E402
@@ -247,9 +247,6 @@ def outputs(tally):
 
 def without_standard_files(tally):
     """No file that is opened may take the number of one that is closed: answers and messages would go into it."""
-    if EMULATED:
-        print("--    lent: started without standard files: left out under the emulator")
-        return
     for closed in ([0], [1], [0, 1], [2], [1, 2], [0, 1, 2]):
         well = 1 not in closed
         undone = None if well or 2 in closed else UNDONE

@@ -16,7 +16,6 @@ sys.path.insert(0, os.path.join(ROOT, "oracle"))
 from programs import command  # noqa: E402
 
 PATIENCE = 20  # seconds; a program that waits longer has failed
-EMULATED = len(command("")) > 4  # the emulator takes the numbers of standard files that are closed
 
 
 class Said:

@@ -1,5 +1,6 @@
 -- The records at hand answered turn by turn. Assumes nothing.
 use Rattle.std.proofs.Common.{◌≡◌, ℕ, suc, ◌+◌, ◌<◌, ◌≤◌, Bool, false, eqb, ltb, List, [], ◌++◌, length, take, drop, sym, refl, ap, ◌∙◌, subst, arith, length-append, length-take-le, ltb-false, ltb-true, eqb-true}
+use Rattle.std.specs.declared.io.Error.{Error}
 use Rattle.rules.specs.declared.profile.Profile.{Profile}
 use Rattle.rules.proofs.Tests.{by_cond}
 use Rattle.records.specs.declared.frame.Framed.{Framed}
@@ -126,9 +127,9 @@ module _ (p : Profile) (R : ℕ) (f : Flow) (before : Buffers) (input : List ℕ
             tested = u;
           }
 
-      pub rested-unwritten : After (pause.Over Unwritten)
-      rested-unwritten =
-          rested (pause.Over Unwritten) (λ e. let z : ◌≡◌ {A = ℕ} 0 1 = cc in absurd (omega arith)) (λ e. let z : ◌≡◌ {A = ℕ} 0 1 = cc in absurd (omega arith))
+      pub rested-unwritten : (x : Error) → After (pause.Over (Unwritten x))
+      rested-unwritten x =
+          rested (pause.Over (Unwritten x)) (λ e. let z : ◌≡◌ {A = ℕ} 0 1 = cc in absurd (omega arith)) (λ e. let z : ◌≡◌ {A = ℕ} 0 1 = cc in absurd (omega arith))
           (λ e. let z : ◌≡◌ {A = ℕ} 0 1 = cc in absurd (omega arith))
 
       pub rested-waiting : t.ran.halt ≡ Waiting → After pause.Waiting

@@ -1,6 +1,7 @@
 // Records from one file, answered in lines to another over a lent store and its journal. Only reading, writing and keeping a log stand outside what is proved of
 // bytes: `flow` has the rest.
 #![tactic(auto)]
+
 pub mod flow; // what stands between two reads, and one turn: over slices alone
 
 ghost use Rattle.std.specs.Prelude.{◌≡◌, ◌<◌, ◌≤◌, true, false, length};

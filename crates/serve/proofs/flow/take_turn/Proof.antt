@@ -22,9 +22,7 @@ run-requires c κs = search rules
 
 keep-requires : tie.Need-keep-flow-requires
 keep-requires c κs =
-    let b = c.before.before.before.before.before.before.before.before.before.before.before.before.before.before.before in
-    let a = b.before in
-    (taken-at-hand b.pass-over.result.have _ _ b.pass-over.new.0 c.run-ran.ensures.passed, omega (arith, b.pass-over.ensures.have, b.pass-over.auto.0, a.requires.1))
+    (taken-at-hand c.pass_over-g.result.have _ _ c.pass_over-g.new.input c.run-ran.ensures.passed, omega (arith, c.pass_over-g.ensures.have, c.requires.1))
 
 same_length : tie.Need-shape_of-s
 same_length c = search rules
@@ -40,11 +38,11 @@ same-length-4 c = search rules
 
 returns : tie.Need-returns
 returns c =
-    let a = c.before.args in
-    let b = c.before.before.before.before.before.before.before.before.before.before.before.before.before.before.before.before.before.before in
-    let r = c.before.before.before.before.before.before.before.before.before.before in
-    let k = c.before.before in
-    turned a.p a.places a.f b.pass-over.result k.keep-flow.result (lent a.s.now a.j.now) (lent r.run-ran.new.s r.run-ran.new.j.1.1.0) a.input.now b.pass-over.new.0 k.keep-flow.new.input a.out.now r.run-ran.new.j.1.1.1.1.1.1.0 r.run-ran.result b.pass-over.ensures r.run-ran.ensures k.keep-flow.ensures
+    let a = c.args in
+    let b = c.pass_over-g in
+    let r = c.run-ran in
+    let k = c.keep-flow in
+    turned a.p a.places a.f b.result k.result (lent a.s.now a.j.now) (lent r.new.s r.new.j) a.input.now b.new.input k.new.input a.out.now r.new.out r.result b.ensures r.ensures k.ensures
 
 pub take_turn_spec : {M : Type 1} → statement M
 take_turn_spec =
