@@ -79,13 +79,15 @@ struct Rest {
 
 // What can't be appended whole is cut off again, where it began.
 fn append(log: &mut File, piece: &[u8]) -> io::Result<()> {
-    let at = log.seek(SeekFrom::Current(0))?;
+    let at = log.seek(SeekFrom::Current(0));
     let mut kept = log.write_all(piece);
     if kept.is_ok() {
         kept = log.sync_data();
     }
     if kept.is_err() {
-        let _cut = log.set_len(at);
+        if let Ok(end) = at {
+            let _cut = log.set_len(end);
+        }
     }
     kept
 }
