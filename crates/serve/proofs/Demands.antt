@@ -450,7 +450,7 @@ places-stay before after last r s h =
 
 still_open : (R : ℕ) (before after : Buffers) (r : Report) (c : Course full R before after false r)
     → Came full R false (start before) c.read c.end c.wrote
-still_open R before after r c = subst (λ (b : Bool). Came full R b (start before) c.read c.end c.wrote) (c.goes_on_lem refl) c.came
+still_open R before after r c = subst (λ (b : Bool). Came full R b (start before) c.read c.end c.wrote) (c.goes_on refl) c.came
 
 module _ (R : ℕ) (fresh now : Buffers) (r : Report) (c : Course full R fresh now false r) (fill : List ℕ)
     (filled : length fill ≡ r.missing) where

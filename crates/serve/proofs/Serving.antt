@@ -88,7 +88,7 @@ module _ (p : Profile) (R : ℕ) (before : Buffers) where
           missing = m;
           passing = h.passing;
           done = λ e l. absurd (true≢false (sym l ∙ w e));
-          goes_on_lem = λ l. refl;
+          goes_on = λ l. refl;
           rests = λ e l. h.none;
           tested = u;
         }
@@ -142,7 +142,7 @@ module _ (p : Profile) (R : ℕ) (before : Buffers) where
             missing = missing;
             passing = rest.passing;
             done = λ e l. rest.stops (w ∙ ap Over e);
-            goes_on_lem = on;
+            goes_on = on;
             rests = λ e l. absurd (true≢false (sym (rest.stops (w ∙ ap Over e)).0 ∙ on l));
             tested = λ e. rest.tested (w ∙ ap Over e);
           }

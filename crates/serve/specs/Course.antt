@@ -103,7 +103,7 @@ pub record Course (p : Profile) (R : ℕ) (before after : Buffers) (last : Bool)
   pub missing : r.missing ≡ end.skip
   pub passing : (end.skip ≢ 0) → end.hand ≡ []
   pub done : r.end ≡ Whole → last ≡ true → (ended ≡ true) × (left p end [] ≡ [])
-  pub goes_on_lem : last ≡ false → ended ≡ false
+  pub goes_on : last ≡ false → ended ≡ false
   pub rests : r.end ≡ Whole → last ≡ false → records_in p end.hand false ≡ []
   pub tested : r.end ≡ Unsound → ⊥
 
