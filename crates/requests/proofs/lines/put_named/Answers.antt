@@ -1,0 +1,34 @@
+-- `requests::lines::put_named` meets its contract. Assumes nothing.
+use mathlib.Core.Path.{refl}
+use Rattle.values.specs.Meaning.{Proper}
+use Rattle.values.specs.Value.{null}
+use Rattle.laid.proofs.Inside.{inside-header}
+use Rattle.laid.proofs.Stores.{held-inside, held-catalog}
+use Rattle.checks.proofs.Taking.{null-proper}
+use Rattle.requests.proofs.NextLines.{lined, none-lined, names-ended, names-inside, names-first}
+use Rattle.requests.proofs.lines.put_named.Goals as goal
+
+pub table_count-requires : goal.table_count-requires
+table_count-requires c =
+    inside-header c.args.p c.args.places c.args.s.now (held-inside c.args.p c.args.places c.args.s.now c.requires.0)
+
+pub returns-then-table_count-i : goal.returns-then-table_count-i
+returns-then-table_count-i c =
+    let a = c.args in
+    none-lined _ _ _ _ _ _ _ null-proper (names-ended a.p a.places a.s.now c.table_count.result c.table_count.ensures a.i null c.if-table_count-i.true) refl refl
+
+pub name_at-name-requires : goal.name_at-name-requires
+name_at-name-requires c =
+    let a = c.args in
+    (held-catalog a.p a.places a.s.now c.requires.0, names-inside a.p a.places a.s.now c.table_count.result c.table_count.ensures a.i c.if-table_count-i.false)
+
+pub put_single-requires : goal.put_single-requires
+unfolding Proper
+put_single-requires c = (c.requires.1, c.name_at-name.ensures.proper)
+
+pub returns : goal.returns
+returns c =
+    let x = c.put_single in
+    let n = c.name_at-name in
+    let a = c.args in
+    lined _ _ _ _ _ _ _ null-proper _ (names-first a.p a.places a.s.now c.table_count.result c.table_count.ensures a.i c.if-table_count-i.false n.result n.ensures null _) x.ensures.0 x.ensures.1

@@ -1,0 +1,58 @@
+-- `requests::lines::put_stored` meets its contract. Assumes nothing.
+use mathlib.Core.Path.{◌≡◌}
+use mathlib.Core.Option.{some}
+use native.Mathlib.Omega.{arith}
+use Rattle.values.specs.Meaning.{text_bytes}
+use Rattle.rules.specs.State.{is_named}
+use Rattle.rules.specs.Layout.{parse}
+use Rattle.laid.specs.Catalog.{place_of}
+use Rattle.store.proofs.References.{answer-is}
+use Rattle.laid.proofs.RowFacts.{start-least}
+use Rattle.laid.proofs.Searching.{found_within}
+use Rattle.laid.proofs.Stores.{held-inside, held-catalog}
+use Rattle.requests.proofs.NextLines.{table-stored, table-inside, cells-counted, cells-few}
+use Rattle.requests.proofs.lines.put_stored.Goals as goal
+use Rattle.requests.proofs.lines.put_stored.Goals.{In-At}
+
+-- the place that is found
+place : (c : In-At) → let a = c.args in some c.in-At.t ≡ place_of (is_named (text_bytes a.name)) (parse a.p a.places a.s.now).tables
+place c = answer-is c.in-At.is c.get_table.ensures
+
+pub get_table-requires : goal.get_table-requires
+get_table-requires c =
+    (held-catalog c.args.p c.args.places c.args.s.now c.requires.0, c.requires.3)
+
+pub table_record-requires : goal.table_record-requires
+table_record-requires c =
+    let a = c.args in
+    record {
+      inside = held-inside a.p a.places a.s.now c.requires.0;
+      i_in_bounds = found_within a.p a.places a.s.now (text_bytes a.name) c.in-At.t (place (goal.at.table_record-requires c).In-At);
+    }
+
+pub column_count-columns-requires : goal.column_count-columns-requires
+column_count-columns-requires c =
+    let a = c.args in
+    let t = c.in-At.t in
+    start-least a.p a.places a.s.now c.requires.0 t (table-inside a.p a.places a.s.now c.requires.0 a.i c.requires.2 (text_bytes a.name) c.requires.4 t (place (goal.at.column_count-columns-requires c).In-At)) c.table_record.result.now c.table_record.ensures
+
+pub put_row-requires : goal.put_row-requires
+put_row-requires c =
+    let m = c.column_count-columns in
+    let r = c.table_record in
+    let a = c.args in
+    let t = c.in-At.t in (
+      c.requires.0,
+      c.requires.2,
+      cells-counted a.p a.places a.s.now c.requires.0 a.i c.requires.2 (text_bytes a.name) c.requires.4 t (place (goal.at.put_row-requires c).In-At) r.result.now r.ensures m.result m.ensures,
+      omega (arith, c.requires.1, cells-few a.p a.places a.s.now c.requires.0 a.i c.requires.2 (text_bytes a.name) c.requires.4 t (place (goal.at.put_row-requires c).In-At) r.result.now r.ensures m.result m.ensures),
+      c.requires.5,
+    )
+
+pub returns-in-At : goal.returns-in-At
+returns-in-At c = c.put_row.ensures
+
+pub returns-in-Nothing : goal.returns-in-Nothing
+returns-in-Nothing c =
+    let a = c.args in
+    absurd (table-stored a.p a.places a.s.now c.requires.0 a.i c.requires.2 (text_bytes a.name) c.requires.4 (answer-is c.in-Nothing.is c.get_table.ensures))
