@@ -1,5 +1,5 @@
 -- An area of records whose count stands elsewhere in the buffer, in k bytes. Assumes nothing.
-use Rattle.std.specs.Prelude.{◌≡◌, ℕ, ◌+◌, ◌-◌, ◌*◌, ◌^◌, ◌≤◌, ◌<◌, List, [], ◌++◌, length, take, drop}
+use Rattle.std.specs.Prelude.{◌≡◌, ℕ, ◌+◌, ◌-◌, ◌^◌, ◌≤◌, ◌<◌, List, [], ◌++◌, length, take, drop}
 use Rattle.values.specs.Bytes.{be, num}
 use Rattle.values.specs.Area.{with_part, inserted_at, removed_at, Spare, Taken}
 use Rattle.areas.specs.Records.{filled, Wide}

@@ -1,5 +1,5 @@
 -- An area as a list of records, each of the same width, with zeros after them. Assumes nothing.
-use Rattle.std.specs.Prelude.{◌≡◌, ℕ, zero, suc, ◌+◌, ◌-◌, ◌*◌, List, [], ◌∷◌, ◌++◌, length, take, drop, replicate}
+use Rattle.std.specs.Prelude.{◌≡◌, ℕ, zero, suc, ◌-◌, ◌*◌, List, [], ◌∷◌, ◌++◌, length, take, drop, replicate}
 
 -- the records one after the other
 unfoldable pub joined : List (List ℕ) → List ℕ

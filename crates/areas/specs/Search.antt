@@ -2,9 +2,9 @@
 -- Assumes nothing.
 use Prim.Native.Nat.{ℕ, ◌+◌, ◌*◌, ◌≤◌, compare, Ordering}
 use Rattle.std.specs.Prelude.{Bool, List, length, get_or, drop}
-use Rattle.values.specs.Basic.{and_then, is_lt, cmp_bytes}
+use Rattle.values.specs.Basic.{and_then, cmp_bytes}
 use Rattle.values.specs.Value.{Value, cmp_value}
-use Rattle.values.specs.Cell.{name_width, cell_width, read_name, read_value}
+use Rattle.values.specs.Cell.{name_width, read_name, read_value}
 use Rattle.areas.specs.Records.{records}
 use Rattle.areas.specs.Sorted.{Falls}
 

@@ -1,5 +1,5 @@
 -- Strictly sorted lists over any comparison; members; an element at a place put in, a run of them taken out. Assumes nothing.
-use Rattle.std.specs.Prelude.{◌≡◌, Bool, true, false, cond, ◌⊎◌, List, [], ◌∷◌, ◌++◌, take, drop}
+use Rattle.std.specs.Prelude.{◌≡◌, Bool, false, cond, ◌⊎◌, List, [], ◌∷◌, ◌++◌, take, drop}
 use Prim.Native.Nat.{ℕ, suc, ◌+◌, Ordering}
 
 module _ {A : Type 0} where

@@ -6,7 +6,7 @@ use Prim.Native.Nat.{ℕ}
 use mathlib.Core.List.{List, [], ◌∷◌, ◌++◌}
 use lib.Dec.{eqb}
 use borrow.Author.Tests.{eq-eqb, ne_eqb, not-true, not-false}
-use Rattle.values.specs.Basic.{is_nil, is_none, is_some, only_if, ◌or_else◌}
+use Rattle.values.specs.Basic.{is_nil, is_none, only_if, ◌or_else◌}
 use Rattle.values.specs.Value.{Value, kind_of, is_null}
 use Rattle.areas.specs.Sorted.{All}
 use Rattle.rules.specs.declared.answer.Refusal.{Refusal}

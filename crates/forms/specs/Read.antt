@@ -1,6 +1,6 @@
 -- Names and values in a record's bytes (document 01, "Requests"): what stands at a position and where it ends, or the offset of the
 -- first byte that could not be accepted. Assumes nothing.
-use Rattle.std.specs.Prelude.{ℕ, ◌+◌, ◌-◌, ◌≤◌, ◌≡◌, Bool, cond, List, ltb, leb, eqb, length, get_or, take, drop}
+use Rattle.std.specs.Prelude.{ℕ, ◌+◌, ◌-◌, ◌≡◌, cond, List, ltb, leb, eqb, length, get_or, take, drop}
 use Rattle.std.specs.Int.{w64}
 use Rattle.std.proofs.Common.{to_z}
 use Rattle.values.specs.Bytes.{num}

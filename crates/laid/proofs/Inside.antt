@@ -12,7 +12,7 @@ use Rattle.areas.specs.Records.{Wide, records}
 use Rattle.areas.specs.Counted.{count_at}
 use Rattle.areas.proofs.Records.{length-records, get_or-records, wide-records, wide_at}
 use Rattle.rules.specs.declared.profile.Profile.{Profile}
-use Rattle.rules.specs.Profile.{header_width, schema_width, row_width, entry_width, store_length}
+use Rattle.rules.specs.Profile.{header_width, schema_width, row_width, entry_width}
 use Rattle.rules.specs.Layout.{lists, Area, Schemas, Rows, Entries, count_place, count_width, area_at, record_width, area_places, in_area}
 use Rattle.rules.proofs.Widths.{header-within, area-within, place-within}
 use Rattle.laid.specs.Store.{Inside}

@@ -14,7 +14,7 @@ use lib.Ieee.Fits.{down_pos}
 use lib.Ieee.Bits.{is_true, nan_bits_is, of_bits-to_bits, to_bits-lt}
 use lib.Ieee.Exact.{HasValue, odd_sign}
 use Rattle.values.specs.Basic.{is_lt, cmpℤ, cmp_bytes}
-use Rattle.values.specs.Value.{float, normal_bits, the_na_n, signed_bits, cmp_value, before}
+use Rattle.values.specs.Value.{float, normal_bits, the_nan, signed_bits, cmp_value, before}
 use Rattle.values.proofs.Floats.{infinite, normal-zero, normal-nan, normal-same, normal-cases, normal-lt, nan-bits, below_nan, bits-below-nan}
 use Rattle.values.proofs.Orders.{Tri, less, level, more, tri, is-lt_z, and-eq}
 
@@ -349,13 +349,13 @@ nan-after x w f n h =
     float-before (to_bits binary64 x) w ∙ ap (λ (b : ℕ). lt_z (signed_bits (normal_bits (to_bits binary64 x))) (signed_bits b)) (normal-nan w h)
     ∙ last (normal_bits (to_bits binary64 x)) l
   where
-    last : (b : ℕ) → b % 2 ^ 63 ≤ infinite → lt_z (signed_bits b) (pos the_na_n) ≡ true
+    last : (b : ℕ) → b % 2 ^ 63 ≤ infinite → lt_z (signed_bits b) (pos the_nan) ≡ true
     last b l = on (ltb b (2 ^ 63)) refl
       where
-        on : (t : Bool) → ltb b (2 ^ 63) ≡ t → lt_z (cond t (pos b) (negsuc (b - 2 ^ 63))) (pos the_na_n) ≡ true
-        on true p = let k = ltb-true b (2 ^ 63) p in lt-ltb b the_na_n (omega arith)
+        on : (t : Bool) → ltb b (2 ^ 63) ≡ t → lt_z (cond t (pos b) (negsuc (b - 2 ^ 63))) (pos the_nan) ≡ true
+        on true p = let k = ltb-true b (2 ^ 63) p in lt-ltb b the_nan (omega arith)
         on false p = refl
 
 -- that is the library's NaN too
 pub nan_last : (x : Float) → T (fits binary64 x) → T (not (is_nan x)) → before (float (to_bits binary64 x)) (float (to_bits binary64 nan)) ≡ true
-nan_last x f n = rw nan-bits (nan-after x the_na_n f n (omega arith))
+nan_last x f n = rw nan-bits (nan-after x the_nan f n (omega arith))

@@ -8,7 +8,7 @@ use lib.Dec.{T, ltb, eqb}
 use lib.Ieee.{Float, nan, inf, fin, ne, is_nan, nan_bits, binary64, of_bits, to_bits, div, fits}
 use lib.Ieee.Bits.{is_false, nan_bits_is, nan_bits_above, of_bits-to_bits, to_bits-of_bits}
 use lib.Ieee.Compare.{differs_from_itself, nan_differs}
-use Rattle.values.specs.Value.{normal_bits, the_na_n}
+use Rattle.values.specs.Value.{normal_bits, the_nan}
 
 -- the bits of infinity: those of a NaN are above them
 abbrev pub infinite : ℕ
@@ -20,7 +20,7 @@ pub normal-zero : (w : ℕ) → w ≡ 2 ^ 63 → normal_bits w ≡ 0
 unfolding normal_bits
 normal-zero w e = rw (eq-eqb w (2 ^ 63) e)
 
-pub normal-nan : (w : ℕ) → infinite < w % 2 ^ 63 → normal_bits w ≡ the_na_n
+pub normal-nan : (w : ℕ) → infinite < w % 2 ^ 63 → normal_bits w ≡ the_nan
 unfolding normal_bits
 normal-nan w h = rw (ne_eqb w (2 ^ 63) (λ e. omega arith), lt-ltb infinite (w % 2 ^ 63) h)
 
@@ -28,11 +28,11 @@ pub normal-same : (w : ℕ) → (w ≡ 2 ^ 63 → ⊥) → w % 2 ^ 63 ≤ infini
 unfolding normal_bits
 normal-same w n h = rw (ne_eqb w (2 ^ 63) n, le-ltb infinite (w % 2 ^ 63) h)
 
-pub normal-cases : (P : ℕ → Type 0) (w : ℕ) → P 0 → (infinite < w % 2 ^ 63 → P the_na_n) → ((w ≡ 2 ^ 63 → ⊥) → w % 2 ^ 63 ≤ infinite → P w) → P (normal_bits w)
+pub normal-cases : (P : ℕ → Type 0) (w : ℕ) → P 0 → (infinite < w % 2 ^ 63 → P the_nan) → ((w ≡ 2 ^ 63 → ⊥) → w % 2 ^ 63 ≤ infinite → P w) → P (normal_bits w)
 unfolding normal_bits
 normal-cases P w z n s = on (eqb w (2 ^ 63)) (ltb infinite (w % 2 ^ 63)) refl refl
   where
-    on : (a b : Bool) → eqb w (2 ^ 63) ≡ a → ltb infinite (w % 2 ^ 63) ≡ b → P (cond a 0 (cond b the_na_n w))
+    on : (a b : Bool) → eqb w (2 ^ 63) ≡ a → ltb infinite (w % 2 ^ 63) ≡ b → P (cond a 0 (cond b the_nan w))
     on true b p q = z
     on false true p q = n (ltb-true infinite (w % 2 ^ 63) q)
     on false false p q = s (eqb-false w (2 ^ 63) p) (ltb-false infinite (w % 2 ^ 63) q)
@@ -46,12 +46,12 @@ normal-twice w = normal-cases (λ n. normal_bits n ≡ n) w at_zero (λ l. at-na
     at_zero : normal_bits 0 ≡ 0
     at_zero = normal-same 0 (λ e. omega arith) (omega arith)
 
-    at-nan : normal_bits the_na_n ≡ the_na_n
-    at-nan = normal-nan the_na_n (omega arith)
+    at-nan : normal_bits the_nan ≡ the_nan
+    at-nan = normal-nan the_nan (omega arith)
 
 -- ---- a float's bits
 
-pub nan-bits : to_bits binary64 nan ≡ the_na_n
+pub nan-bits : to_bits binary64 nan ≡ the_nan
 unfolding to_bits
 nan-bits = refl
 
@@ -89,12 +89,12 @@ pub back-bits : (w : ℕ) → w < 2 ^ 64 → w % 2 ^ 63 ≤ infinite → to_bits
 back-bits w l h = to_bits-of_bits binary64 w l (rw (sym (nan_bits_is binary64 w) ∙ below_nan w h) tt)
 
 -- what `x != x` says of the bits
-pub nan-told : (x : Float) → fits binary64 x ≡ true → ne x x ≡ eqb (normal_bits (to_bits binary64 x)) the_na_n
+pub nan-told : (x : Float) → fits binary64 x ≡ true → ne x x ≡ eqb (normal_bits (to_bits binary64 x)) the_nan
 nan-told x f = on (ne x x) refl
   where
-    no : (w : ℕ) → w % 2 ^ 63 ≤ infinite → normal_bits w ≡ the_na_n → ⊥
-    no w h = normal-cases (λ n. n ≡ the_na_n → ⊥) w (λ e. omega arith) (λ l e. omega arith) (λ n l e. omega arith)
+    no : (w : ℕ) → w % 2 ^ 63 ≤ infinite → normal_bits w ≡ the_nan → ⊥
+    no w h = normal-cases (λ n. n ≡ the_nan → ⊥) w (λ e. omega arith) (λ l e. omega arith) (λ n l e. omega arith)
 
-    on : (b : Bool) → ne x x ≡ b → ne x x ≡ eqb (normal_bits (to_bits binary64 x)) the_na_n
-    on true t = t ∙ sym (eq-eqb (normal_bits (to_bits binary64 x)) the_na_n (ap normal_bits (ap (to_bits binary64) (is-nan x t) ∙ nan-bits) ∙ normal-nan the_na_n (omega arith)))
-    on false t = t ∙ sym (ne_eqb (normal_bits (to_bits binary64 x)) the_na_n (no (to_bits binary64 x) (bits-below-nan x f (no_nan x t))))
+    on : (b : Bool) → ne x x ≡ b → ne x x ≡ eqb (normal_bits (to_bits binary64 x)) the_nan
+    on true t = t ∙ sym (eq-eqb (normal_bits (to_bits binary64 x)) the_nan (ap normal_bits (ap (to_bits binary64) (is-nan x t) ∙ nan-bits) ∙ normal-nan the_nan (omega arith)))
+    on false t = t ∙ sym (ne_eqb (normal_bits (to_bits binary64 x)) the_nan (no (to_bits binary64 x) (bits-below-nan x f (no_nan x t))))

@@ -1,10 +1,10 @@
 -- A record that is written part by part, from the front: what stands before the next part. Assumes nothing.
 use mathlib.Core.Path.{◌≡◌, refl, sym, ap, ◌∙◌}
 use mathlib.Core.List.{List, [], ◌∷◌, ◌++◌, append_assoc, append-nil}
-use Prim.Native.Nat.{ℕ, zero, suc, ◌+◌, ◌-◌, ◌≤◌, ◌<◌, ◌/◌, ◌%◌}
+use Prim.Native.Nat.{ℕ, zero, suc, ◌+◌, ◌-◌, ◌≤◌, ◌/◌, ◌%◌}
 use native.Mathlib.Nat.{add-zero}
 use native.Mathlib.Omega.{arith}
-use lib.ListN.{length, take, drop, set, length-append, length-take, length-drop, replicate, drop_of_length-le}
+use lib.ListN.{length, take, drop, set, length-drop, replicate, drop_of_length-le}
 use lib.Seq.{take_at, take_all, length-take-le}
 use borrow.Rule.Slice.PartMut.{put_mid, same_len_mid, mid_of}
 use Rattle.values.specs.Bytes.{be}

@@ -1,13 +1,13 @@
 -- Laws of `specs/Area.antt`. Assumes nothing.
 use mathlib.Core.Path.{◌≡◌, refl, sym, ap, ◌∙◌}
-use Prim.Native.Nat.{ℕ, zero, suc, pred, ◌+◌, ◌-◌, ◌*◌, ◌≤◌, ◌<◌}
+use Prim.Native.Nat.{ℕ, zero, suc, ◌+◌, ◌-◌, ◌≤◌, ◌<◌}
 use native.Mathlib.Nat.{not-suc-le-zero, suc-add}
-use native.Mathlib.Numerals.{add-one, sub-one}
+use native.Mathlib.Numerals.{sub-one}
 use native.Mathlib.Omega.{arith}
-use mathlib.Core.List.{List, [], ◌∷◌, ◌++◌, append_assoc, append-nil}
-use lib.ListN.{length, take, drop, get_or, set, replicate, length-append, length-take, length-drop, length-set, length-replicate, take-append-drop, get_or-append}
-use lib.Seq.{length-take-le, take-suc, drop-cons, set_at, get_or-take, get_or-drop, get_or-append-add, append_snoc, take-nil, take_at, drop_at, take-take, drop-drop, drop-append-add, take-append-le, drop-append-le, take-add, take-length, drop-length}
-use Rattle.values.specs.Area.{Room, Place, raised, lowered, cleared, closed}
+use mathlib.Core.List.{List, ◌∷◌, ◌++◌, append_assoc, append-nil}
+use lib.ListN.{length, take, drop, get_or, set, replicate, length-append, length-take, length-drop, length-replicate, take-append-drop, get_or-append}
+use lib.Seq.{length-take-le, take-suc, drop-cons, set_at, get_or-take, get_or-drop, get_or-append-add, append_snoc, take_at, drop-drop, drop-append-add, take-length, drop-length}
+use Rattle.values.specs.Area.{raised, lowered, cleared, closed}
 
 pub length-raised : (at used width : ℕ) (xs : List ℕ) → at ≤ used → used + width ≤ length xs → length (raised at used width xs) ≡ length xs
 unfolding raised

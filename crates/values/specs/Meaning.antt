@@ -1,6 +1,6 @@
 -- What the code's texts and values mean: a text its bytes, a float its bits. Assumes nothing.
 use Prim.Native.Nat.{ℕ, ◌^◌, ◌≤◌, ◌<◌, Ordering}
-use Rattle.std.specs.Prelude.{◌≡◌, Bool, true, List, [], ◌∷◌, T, length, take, drop}
+use Rattle.std.specs.Prelude.{◌≡◌, true, List, [], T, take, drop}
 use Rattle.std.specs.Float.Ieee as Ieee
 use Rattle.std.specs.Float.{binary64}
 use Rattle.std.specs.Float.Ieee.{to_bits}

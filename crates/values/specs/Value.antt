@@ -1,6 +1,6 @@
 -- Values, their equality and order (document 01, "Values and sizes"). Assumes nothing.
 use Prim.Native.Nat.{ℕ, ◌-◌, ◌%◌, ◌^◌, compare, Ordering}
-use Rattle.std.specs.Prelude.{Bool, true, false, cond, List, [], ◌∷◌, ℤ, pos, negsuc, eqb, ltb}
+use Rattle.std.specs.Prelude.{Bool, true, false, cond, List, [], ℤ, pos, negsuc, eqb, ltb}
 use Rattle.std.proofs.Math.Dec.{compare_is_eq}
 use Rattle.values.specs.Basic.{and_then, is_lt, cmpℤ, cmp_bytes, any}
 
@@ -16,12 +16,12 @@ pub data Value : Type 0 where
 abbrev pub text_most : ℕ
 text_most = 24
 
-abbrev pub the_na_n : ℕ
-the_na_n = 0x7FF8000000000000
+abbrev pub the_nan : ℕ
+the_nan = 0x7FF8000000000000
 
 -- on entry minus zero becomes zero and each NaN the one NaN
 unfoldable pub normal_bits : ℕ → ℕ
-normal_bits b = cond (eqb b (2 ^ 63)) 0 (cond (ltb 0x7FF0000000000000 (b % 2 ^ 63)) the_na_n b)
+normal_bits b = cond (eqb b (2 ^ 63)) 0 (cond (ltb 0x7FF0000000000000 (b % 2 ^ 63)) the_nan b)
 
 abbrev pub normalised : Value → Value
 normalised null = null
@@ -50,7 +50,7 @@ abbrev pub is_undefined : Value → Bool
 is_undefined null = true
 is_undefined (boolean b) = false
 is_undefined (integer i) = false
-is_undefined (float f) = eqb (normal_bits f) the_na_n
+is_undefined (float f) = eqb (normal_bits f) the_nan
 is_undefined (text t) = false
 
 -- the bits with the sign bit as a sign: this puts floats in their order, NaN last

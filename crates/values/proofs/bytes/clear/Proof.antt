@@ -1,17 +1,15 @@
 -- `values::bytes::clear` meets its contract. Assumes nothing.
-use mathlib.Core.Path.{◌≡◌, refl, sym, ap, ◌∙◌}
-use mathlib.Core.List.{List, ◌++◌}
-use Prim.Native.Nat.{ℕ, suc, ◌≤◌, ◌+◌, ◌-◌}
+use mathlib.Core.Path.{◌≡◌, refl, ap, ◌∙◌}
+use mathlib.Core.List.{List}
+use Prim.Native.Nat.{ℕ, ◌≤◌, ◌-◌}
 use native.Mathlib.Numerals.{add-one}
 use native.Mathlib.Omega.{arith}
 use borrow.Author.Rules.{rules}
-use lib.ListN.{length, length-set, get_or, set, take, drop}
+use lib.ListN.{length, length-set, set}
 use Rattle.values.specs.Area.{cleared}
 use Rattle.values.proofs.Shifts.{cleared-start, cleared-step}
 use Rattle.values.proofs.bytes.clear.Statement.{statement}
 use Rattle.values.proofs.bytes.clear.Tie as tie
-use Rattle.values.proofs.bytes.clear.Reads as reads
-use Rattle.values.proofs.bytes.clear.Lts as lts
 
 abbrev invariant-loop : tie.invariant-loop-i
 invariant-loop s₀ from to i₀ s i = (from ≤ i) × (i ≤ to) × (s ≡ cleared from i s₀) × (length s ≡ length s₀)

@@ -1,17 +1,14 @@
 -- `values::bytes::copy` meets its contract. Assumes nothing.
-use mathlib.Core.Path.{◌≡◌, refl, sym, ap, ◌∙◌}
+use mathlib.Core.Path.{◌≡◌, refl, ap, ◌∙◌}
 use mathlib.Core.List.{List, ◌++◌}
-use Prim.Native.Nat.{ℕ, suc, ◌≤◌, ◌+◌, ◌-◌}
+use Prim.Native.Nat.{ℕ, ◌≤◌, ◌-◌}
 use native.Mathlib.Numerals.{add-one}
 use native.Mathlib.Omega.{arith}
 use borrow.Author.Rules.{rules}
 use lib.ListN.{length, length-set, get_or, set, take, drop}
 use Rattle.values.proofs.Shifts.{copy_step, copied}
-use lib.Seq.{take-length, drop-length}
 use Rattle.values.proofs.bytes.copy.Statement.{statement}
 use Rattle.values.proofs.bytes.copy.Tie as tie
-use Rattle.values.proofs.bytes.copy.Reads as reads
-use Rattle.values.proofs.bytes.copy.Lts as lts
 
 abbrev invariant-loop : tie.invariant-loop-i
 invariant-loop dst₀ src i₀ dst i = (i ≤ length src) × (dst ≡ take i src ++ drop i dst₀) × (length dst ≡ length dst₀)

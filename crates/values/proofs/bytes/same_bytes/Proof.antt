@@ -7,8 +7,6 @@ use Rattle.values.specs.Bytes.{leqb}
 use Rattle.values.proofs.Scans.{same_stop, same_next, same_end, same-long}
 use Rattle.values.proofs.bytes.same_bytes.Statement.{statement}
 use Rattle.values.proofs.bytes.same_bytes.Tie as tie
-use Rattle.values.proofs.bytes.same_bytes.Reads as reads
-use Rattle.values.proofs.bytes.same_bytes.Lts as lts
 
 abbrev invariant-loop : tie.invariant-loop-i
 invariant-loop a b i₀ i = (i ≤ length a) × (leqb a b ≡ leqb (drop i a) (drop i b))

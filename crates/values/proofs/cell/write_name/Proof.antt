@@ -4,7 +4,7 @@ use mathlib.Core.List.{List, [], ◌∷◌, ◌++◌}
 use Prim.Native.Nat.{ℕ}
 use borrow.Author.Rules.{rules}
 use native.Mathlib.Omega.{arith}
-use lib.ListN.{length, set}
+use lib.ListN.{set}
 use borrow.Rule.Slice.PartMut.{put_mid}
 use Rattle.values.specs.Bytes.{be}
 use Rattle.values.specs.Meaning.{words}

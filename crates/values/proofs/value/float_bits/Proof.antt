@@ -2,13 +2,13 @@
 use mathlib.Core.Path.{sym, ap, ◌∙◌}
 use native.Mathlib.Omega.{arith}
 use lib.Ieee.{binary64, to_bits}
-use Rattle.values.specs.Value.{normal_bits, the_na_n}
+use Rattle.values.specs.Value.{normal_bits, the_nan}
 use Rattle.values.proofs.Floats.{normal-zero, normal-nan, normal-same, nan-bits, is-nan, no_nan, bits-below-nan}
 use Rattle.values.proofs.value.float_bits.Statement.{statement}
 use Rattle.values.proofs.value.float_bits.Tie as tie
 
 returns : tie.Need-returns-then-x
-returns c = sym (ap normal_bits (ap (to_bits binary64) (is-nan c.args.x c.if-x.true) ∙ nan-bits) ∙ normal-nan the_na_n (omega arith))
+returns c = sym (ap normal_bits (ap (to_bits binary64) (is-nan c.args.x c.if-x.true) ∙ nan-bits) ∙ normal-nan the_nan (omega arith))
 
 float-to-bits-w : tie.Need-float_to_bits-w
 float-to-bits-w c = no_nan c.args.x c.if-x.false

@@ -1,6 +1,6 @@
 -- `values::value::float_of` meets its contract. Assumes nothing.
 use mathlib.Core.Path.{sym, ap, ◌∙◌}
-use lib.Ieee.{binary64, to_bits, fits}
+use lib.Ieee.{binary64, to_bits}
 use lib.Ieee.Bits.{of_bits-fits}
 use Rattle.values.proofs.Floats.{normal-zero, normal-nan, normal-same, nan-bits, zero_bits, zero_by_zero, nan-fits, below_nan, back-bits}
 use Rattle.values.proofs.value.float_of.Statement.{statement}
