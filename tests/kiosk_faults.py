@@ -107,11 +107,11 @@ def outputs(tally):
         with open("/dev/full", "wb") as full:
             kiosk(tally, "standard output is a full disk" + title, words=words, stdout=full, out=b"", undone=UNDONE,
                   says=["standard output: No space"], changed=changed)
-        for how, ignored, status in [("ignored", [signal.SIGPIPE], 0), ("not ignored", [], -signal.SIGPIPE)]:
+        for how, ignored in [("ignored", [signal.SIGPIPE]), ("not ignored", [])]:  # the program sees to the signal itself
             end, start = os.pipe()
             os.close(end)
             kiosk(tally, "standard output is a closed pipe, SIGPIPE %s%s" % (how, title), words=words, stdout=start, ignored=ignored,
-                  out=b"", undone=UNDONE if ignored else None, status=status, changed=changed)
+                  out=b"", undone=UNDONE, changed=changed)
             os.close(start)
 
 

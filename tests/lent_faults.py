@@ -237,11 +237,10 @@ def outputs(tally):
     with open("/dev/full", "wb") as full:
         lent(tally, "standard output is a full disk", good(after=OLD, kept=OLD), stdout=full, says=["standard output: No space"])
         lent(tally, "standard output is a full disk, the same names", good(), SAME, stdout=full, undone=SAME_UNDONE)
-    for title, ignored, status in [("ignored", [signal.SIGPIPE], 0), ("not ignored", [], -signal.SIGPIPE)]:
+    for title, ignored in [("ignored", [signal.SIGPIPE]), ("not ignored", [])]:  # the program sees to the signal itself
         end, start = os.pipe()
         os.close(end)
-        lent(tally, "standard output is a closed pipe, SIGPIPE " + title, good(after=OLD, kept=OLD), stdout=start, ignored=ignored,
-             undone=UNDONE if ignored else None, status=status)
+        lent(tally, "standard output is a closed pipe, SIGPIPE " + title, good(after=OLD, kept=OLD), stdout=start, ignored=ignored)
         os.close(start)
 
 

@@ -1,59 +1,47 @@
 // What the path of a file tells.
-ghost use Rattle.std.specs.Prelude.{◌≤◌, length};
-ghost use Rattle.libc.specs.Io.{Ended};
+ghost use Rattle.std.specs.Prelude.{◌≡◌, ◌≢◌, ℕ, ◌-◌, ◌<◌, ◌≤◌, length, slice_index, IsCharBoundary};
 
-// Where the name of a file begins in its path: behind the last slash.
-fn name_at(path: &[u8]) -> usize
-    ensures { result ≤ length path.now }
+use crate::say;
+use std::fs;
+use std::fs::File;
+use std::rt::Files;
+
+// Where the name of a file begins in its path: behind the last slash. 47 is a slash.
+fn name_at(path: &str) -> usize
+    ensures within { result ≤ length path.now }
+    ensures boundary { IsCharBoundary path.now result }
+    ensures behind_slash { 0 < result → slice_index path.now (result - 1) ≡ 47 }
+    ensures last { (i : ℕ) → result ≤ i → i < length path.now → slice_index path.now i ≢ 47 }
 {
-    let mut at = path.len();
-    while 0 < at {
-        if path[at - 1] == b'/' {
-            return at;
-        }
-        at -= 1;
+    match path.rfind('/') {
+        Some(at) => at + 1,
+        None => 0,
     }
-    at
 }
 
-// Opens the folder that a file stands in, and answers a descriptor, or -1 once the cause is said.
-pub fn open_folder(path: &[u8]) -> i32 {
+// Opens the folder that a file stands in; none is open once the cause is said.
+pub fn open_folder<R: Files + Eprint>(rt: &R, path: &str) -> Option<R::File> {
     let n = name_at(path);
     if n == 0 {
-        return open_named(b".");
+        return open_named(rt, ".");
     }
-    open_named(&path[0..n])
+    open_named(rt, &path[..n])
 }
 
-fn open_named(folder: &[u8]) -> i32 {
-    let fd = os::open_read(folder);
-    if fd < 0 {
-        os::fail(folder);
+fn open_named<R: Files + Eprint>(rt: &R, folder: &str) -> Option<R::File> {
+    match File::open(rt, folder) {
+        Ok(file) => Some(file),
+        Err(e) => {
+            say::complain(rt, folder, e);
+            None
+        }
     }
-    fd
-}
-
-// A path as C reads it, with zeros behind it.
-fn ended(path: &[u8]) -> [u8; 4096]
-    requires { length path.now ≤ 4095 }
-    ensures { Ended result }
-{
-    let mut bytes = io::buffer();
-    let mut i = 0;
-    while i < path.len() {
-        bytes[i] = path[i];
-        i += 1;
-    }
-    bytes[4095] = 0;
-    bytes
 }
 
 // Whether a name is that of a link to a file.
-pub fn is_link(path: &[u8]) -> bool {
-    if 4095 < path.len() {
-        return false;
+pub fn is_link(rt: &impl Files, path: &str) -> bool {
+    match fs::symlink_metadata(rt, path) {
+        Ok(found) => found.is_symlink(),
+        Err(_) => false,
     }
-    let name = ended(path);
-    let mut target = [0u8; 1];
-    0 <= libc::readlink(&name, &mut target)
 }

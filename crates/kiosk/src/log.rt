@@ -3,180 +3,197 @@
 use crate::search;
 use crate::search::Seen;
 use files::{path, say};
-use libc::STDERR_FILENO;
 use serve::{End, Report};
+use std::fs::{File, OpenFile, OpenOptions};
+use std::io;
+use std::io::{ErrorKind, Read, Seek, SeekFrom, Write};
+use std::rt::Files;
 
 // Whether a file may be the log of a kiosk: it is empty, or a record begins in it. Any other, say a text or a store under a wrong name, is
 // neither cut nor added to.
-fn is_log(log: i32, name: &[u8]) -> bool {
-    if libc::lseek(log, 0, libc::SEEK_END) == 0 {
+fn is_log<F: Read + Seek>(rt: &impl Eprint, log: &mut F, name: &str) -> bool {
+    if let Ok(0) = log.seek(SeekFrom::End(0)) {
         return true;
     }
-    libc::lseek(log, 0, libc::SEEK_SET);
-    let seen = search::search(log);
-    match seen {
-        Seen::Record => {
-            libc::lseek(log, 0, libc::SEEK_SET);
+    let _start = log.rewind();
+    match search::search(log) {
+        Ok(Seen::Record) => {
+            let _start = log.rewind();
             return true;
         }
-        Seen::Failed => {
-            os::fail(name);
+        Ok(_) => {
+            say::complain(
+                rt,
+                name,
+                "this is no log of a kiosk: no record begins in it",
+            );
         }
-        _ => {
-            say::complain(name, b"this is no log of a kiosk: no record begins in it");
+        Err(e) => {
+            say::complain(rt, name, e);
         }
     }
     false
 }
 
 // Brings the folder that the log stands in to the disk, so that a log that was made is there after a power cut.
-fn sync_folder(name: &[u8]) -> bool {
-    let folder = path::open_folder(name);
-    if folder < 0 {
+fn sync_folder<R: Files + Eprint>(rt: &R, name: &str) -> bool {
+    let Some(folder) = path::open_folder(rt, name) else {
         return false;
+    };
+    match folder.sync_all() {
+        Ok(()) => true,
+        Err(e) => {
+            say::complain(rt, name, e);
+            false
+        }
     }
-    let done = libc::fsync(folder) == 0;
-    if !done {
-        os::fail(name);
-    }
-    libc::close(folder);
-    done
 }
 
-// Opens the log, or makes it where it is missing. Answers -1 once the cause is said.
-fn open_or_make(name: &[u8]) -> i32 {
-    let log = os::open_update(name);
-    if 0 <= log {
-        return log;
-    }
-    if os::errno() != libc::ENOENT {
-        os::fail(name);
-        return -1;
-    }
-    let made = os::create(name);
-    if made < 0 && os::errno() != libc::EEXIST {
-        os::fail(name);
-        return -1;
-    }
-    libc::close(made);
-    let again = os::open_update(name);
-    if again < 0 {
-        os::fail(name);
-    }
-    again
+fn open_update<R: Files>(rt: &R, name: &str) -> io::Result<R::File> {
+    OpenOptions::new().read(true).write(true).open(rt, name)
 }
 
-// Opens the log and answers a descriptor whose position is at its start, or -1 once it is said why it is no log to go on with.
-pub fn open(name: &[u8]) -> i32 {
-    if !sync_folder(name) {
-        return -1;
+// Makes the log. One that stands there meanwhile is left alone.
+fn make<R: Files>(rt: &R, name: &str) -> io::Result<()> {
+    match OpenOptions::new()
+        .write(true)
+        .create_new(true)
+        .open(rt, name)
+    {
+        Ok(_made) => Ok(()),
+        Err(e) => {
+            if e.kind() == ErrorKind::AlreadyExists {
+                Ok(())
+            } else {
+                Err(e)
+            }
+        }
     }
-    let log = open_or_make(name);
-    if log < 0 {
-        return -1;
+}
+
+// Opens the log, or makes it where it is missing.
+fn open_or_make<R: Files>(rt: &R, name: &str) -> io::Result<R::File> {
+    match open_update(rt, name) {
+        Ok(log) => {
+            return Ok(log);
+        }
+        Err(e) => {
+            if e.kind() != ErrorKind::NotFound {
+                return Err(e);
+            }
+        }
     }
-    if !files::is_kept(log) {
-        say::complain(name, b"this is no plain file");
-        libc::close(log);
-        return -1;
+    make(rt, name)?;
+    open_update(rt, name)
+}
+
+// Opens the log, its position at its start. None is open once it is said why it is no log to go on with.
+pub fn open<R: Files + Eprint>(rt: &R, name: &str) -> Option<R::File> {
+    if !sync_folder(rt, name) {
+        return None;
     }
-    if !sync_folder(name) || !is_log(log, name) {
-        libc::close(log);
-        return -1;
+    let mut log = match open_or_make(rt, name) {
+        Ok(log) => log,
+        Err(e) => {
+            say::complain(rt, name, e);
+            return None;
+        }
+    };
+    if !files::is_kept(&log) {
+        say::complain(rt, name, "this is no plain file");
+        return None;
     }
-    log
+    if !sync_folder(rt, name) || !is_log(rt, &mut log, name) {
+        return None;
+    }
+    Some(log)
 }
 
 // Cuts off what is behind the log's last whole record.
-fn cut(log: i32, whole: u64) -> bool {
-    if 9223372036854775807 < whole {
-        return false;
-    }
-    if libc::ftruncate(log, whole as i64) != 0 {
-        return false;
-    }
-    if libc::lseek(log, 0, libc::SEEK_END) < 0 {
-        return false;
-    }
-    libc::fdatasync(log) == 0
+fn cut<F: OpenFile + Seek>(log: &mut F, whole: u64) -> io::Result<()> {
+    log.set_len(whole)?;
+    log.seek(SeekFrom::End(0))?;
+    log.sync_data()
 }
 
 // Adds zeros for what is missing of a record of bad length, so that the next one is read where it begins.
-fn fill(log: i32, missing: usize) -> bool {
-    let zeros = io::large_buffer();
+fn fill<F: OpenFile + Write>(log: &mut F, missing: usize) -> io::Result<()> {
+    let zeros = [0u8; 65536];
     if zeros.len() < missing {
-        return false;
+        return Err(io::Error::from(ErrorKind::InvalidData));
     }
-    if !io::write_all(log, &zeros[0..missing]) {
-        return false;
-    }
-    libc::fdatasync(log) == 0
+    log.write_all(&zeros[0..missing])?;
+    log.sync_data()
 }
 
 // How many bytes the whole records of a log have.
 fn whole_bytes(r: Report) -> u64 {
-    std::num::wrapping_sub_u64(r.bytes, r.torn as u64)
+    r.bytes.wrapping_sub(r.torn as u64)
 }
 
 // Makes the log's end a place where a record may begin.
-fn mend(log: i32, r: Report) -> bool {
+fn mend<F: OpenFile + Write + Seek>(log: &mut F, r: Report) -> io::Result<()> {
     if 0 < r.torn {
         return cut(log, whole_bytes(r));
     }
     if 0 < r.missing {
         return fill(log, r.missing);
     }
-    true
+    Ok(())
 }
 
-fn tell_number(what: &[u8], n: u64) {
-    io::write_all(STDERR_FILENO, what);
-    io::print_decimal(STDERR_FILENO, n);
+fn tell_number(rt: &impl Eprint, what: &str, n: u64) {
+    let _said = eprint!(rt; "{what}{n}");
 }
 
 // Says what was taken over, and what was done to the log's end.
-fn tell(name: &[u8], r: Report) {
-    io::write_all(STDERR_FILENO, b"kiosk: ");
-    io::write_all(STDERR_FILENO, name);
-    tell_number(b": records taken over: ", r.records);
-    tell_number(b", bytes: ", whole_bytes(r));
+fn tell(rt: &impl Eprint, name: &str, r: Report) {
+    let _said = eprint!(rt; "kiosk: {name}");
+    tell_number(rt, ": records taken over: ", r.records);
+    tell_number(rt, ", bytes: ", whole_bytes(r));
     if 0 < r.torn {
-        tell_number(b", torn bytes cut off: ", r.torn as u64);
+        tell_number(rt, ", torn bytes cut off: ", r.torn as u64);
     }
     if 0 < r.missing {
-        tell_number(b", missing bytes filled with zeros: ", r.missing as u64);
+        tell_number(rt, ", missing bytes filled with zeros: ", r.missing as u64);
     }
-    io::write_all(STDERR_FILENO, b"\n");
+    let _said = eprintln!(rt);
 }
 
 // Carries the records of the log out again over a fresh store and journal, and makes it fit to go on with. What was taken over is said.
-pub fn take_over(s: &mut [u8], j: &mut [u8], log: i32, name: &[u8]) -> bool {
+pub fn take_over<F: OpenFile + Read + Write + Seek>(
+    rt: &impl Eprint,
+    s: &mut [u8],
+    j: &mut [u8],
+    log: &mut F,
+    name: &str,
+) -> bool {
     let report = serve::replay(s, j, log);
-    let end = report.end;
-    match end {
+    match report.end {
         End::Whole => {}
-        _ => {
-            os::fail(name);
+        // never: both are fresh
+        End::Unsound => {
+            say::complain(rt, name, "it is carried out over no sound store");
+            return false;
+        }
+        End::Unread(e) | End::Unwritten(e) | End::Unlogged(e) => {
+            say::complain(rt, name, e);
             return false;
         }
     }
-    if !mend(log, report) {
-        os::fail(name);
+    if let Err(e) = mend(log, report) {
+        say::complain(rt, name, e);
         return false;
     }
     if 0 < report.bytes {
-        tell(name, report);
+        tell(rt, name, report);
     }
     true
 }
 
-// Opens the log once more, to append to it: what a second kiosk appends to the same log is then not written over. Answers -1 once the
-// cause is said.
-pub fn open_end(name: &[u8]) -> i32 {
-    let log = os::open_append(name);
-    if log < 0 || libc::lseek(log, 0, libc::SEEK_END) < 0 {
-        os::fail(name);
-        return -1;
-    }
-    log
+// Opens the log once more, to append to it: what a second kiosk appends to the same log is then not written over.
+pub fn open_end<R: Files>(rt: &R, name: &str) -> io::Result<R::File> {
+    let mut log = OpenOptions::new().append(true).open(rt, name)?;
+    log.seek(SeekFrom::End(0))?;
+    Ok(log)
 }

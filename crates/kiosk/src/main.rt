@@ -5,120 +5,147 @@
 // Where something was not done, the last line on standard error begins with `kiosk: not done:`, for a script to test. Where LOG was not
 // empty, a line says what was taken over.
 #![tactic(auto)]
+
 mod log; // the file that the records are kept in
 mod search; // whether a record begins in a file
 
 use files::say;
-use libc::{STDERR_FILENO, STDIN_FILENO, STDOUT_FILENO};
 use serve::End;
 use sound::fresh;
+use std::fs::File;
+use std::io;
+use std::io::{IsTerminal, Read};
+use std::rt::Files;
 
 // Answers what comes in, and says why where it stops before the input's end.
-fn answer(s: &mut [u8], j: &mut [u8], log: i32, name: &[u8]) {
-    if libc::isatty(STDIN_FILENO) == 1 {
-        io::write_all(
-            STDERR_FILENO,
-            b"kiosk: waits for records, which are bytes and no text, from this terminal\n",
+fn answer<R: Print + Eprint, I: Read + IsTerminal>(
+    rt: &R,
+    s: &mut [u8],
+    j: &mut [u8],
+    from: &mut I,
+    log: &mut Option<File>,
+    name: &str,
+) {
+    if from.is_terminal() {
+        let _said = eprintln!(rt;
+            "kiosk: waits for records, which are bytes and no text, from this terminal"
         );
     }
-    let report = serve::serve(s, j, STDIN_FILENO, STDOUT_FILENO, log);
-    let end = report.end;
-    match end {
+    let report = serve::serve(s, j, from, &mut io::writer(rt), log);
+    match report.end {
         End::Whole => {}
-        End::Unread => {
-            os::fail(b"standard input");
-            say::tell_undone(b"kiosk", b"", b"the input is not read to its end");
+        End::Unread(e) => {
+            say::complain(rt, "standard input", e);
+            say::tell_undone(rt, "kiosk", "", "the input is not read to its end");
         }
-        End::Unlogged => {
-            os::fail(name);
+        End::Unlogged(e) => {
+            say::complain(rt, name, e);
             say::tell_undone(
-                b"kiosk",
+                rt,
+                "kiosk",
                 name,
-                b" does not have what came in last, which is not carried out",
+                " does not have what came in last, which is not carried out",
             );
         }
-        _ => {
-            os::fail(b"standard output");
-            say::tell_undone(b"kiosk", b"", b"not every answer is written");
+        End::Unwritten(e) => {
+            say::complain(rt, "standard output", e);
+            say::tell_undone(rt, "kiosk", "", "not every answer is written");
+        }
+        // never: both are fresh, or what a log left
+        End::Unsound => {
+            say::tell_undone(rt, "kiosk", "", "not every answer is written");
         }
     }
 }
 
 // Answers over the records that a log has.
-fn answer_with_log(s: &mut [u8], j: &mut [u8], name: &[u8]) {
-    let log = log::open(name);
-    if log < 0 {
-        say::tell_undone(b"kiosk", name, b" is as it was, and nothing is answered");
+fn answer_with_log<R: Files<File = File> + Print + Eprint, I: Read + IsTerminal>(
+    rt: &R,
+    s: &mut [u8],
+    j: &mut [u8],
+    from: &mut I,
+    name: &str,
+) {
+    let Some(mut log) = log::open(rt, name) else {
+        say::tell_undone(rt, "kiosk", name, " is as it was, and nothing is answered");
         return;
-    }
-    if !log::take_over(s, j, log, name) {
+    };
+    if !log::take_over(rt, s, j, &mut log, name) {
         say::tell_undone(
-            b"kiosk",
+            rt,
+            "kiosk",
             name,
-            b" is not taken over, and nothing is answered",
+            " is not taken over, and nothing is answered",
         );
         return;
     }
-    libc::close(log);
-    let end = log::open_end(name);
-    if end < 0 {
-        say::tell_undone(
-            b"kiosk",
-            name,
-            b" can't be added to, and nothing is answered",
-        );
-        return;
+    drop(log);
+    match log::open_end(rt, name) {
+        Ok(end) => answer(rt, s, j, from, &mut Some(end), name),
+        Err(e) => {
+            say::complain(rt, name, e);
+            say::tell_undone(
+                rt,
+                "kiosk",
+                name,
+                " can't be added to, and nothing is answered",
+            );
+        }
     }
-    answer(s, j, end, name);
-    libc::close(end);
 }
 
-fn put_usage(to: i32) {
-    io::write_all(to, b"usage: kiosk [LOG] < RECORDS\n");
-    io::write_all(
-        to,
-        b"Answers records from standard input, which are bytes, over a store with 70 row places; a batch has 8192.\n",
-    );
-    io::write_all(
-        to,
-        b"With LOG the records are kept there, and those that it has are carried out first: an open batch stays open.\n",
-    );
-    io::write_all(
-        to,
-        b"Where something is not done, the last line on standard error begins with 'kiosk: not done:'.\n",
-    );
-}
+const USAGE: &str = "usage: kiosk [LOG] < RECORDS
+Answers records from standard input, which are bytes, over a store with 70 row places; a batch has 8192.
+With LOG the records are kept there, and those that it has are carried out first: an open batch stays open.
+Where something is not done, the last line on standard error begins with 'kiosk: not done:'.";
 
 // Over a fresh store and the zeros of a journal, with a log or without one. The journal's type says its length: of a new array lent as a
 // slice the prover would count the zeros, for which it lacks the stack.
-fn begin(s: &mut [u8], journal: &mut [u8; 1916931], count: usize) {
-    if count < 2 {
-        answer(s, journal, serve::NONE, b"");
-        return;
+fn begin<R: Files<File = File> + Print + Eprint, I: Read + IsTerminal>(
+    rt: &R,
+    s: &mut [u8],
+    journal: &mut [u8; 1916931],
+    from: &mut I,
+    names: &[String],
+) {
+    match names.first() {
+        None => answer(rt, s, journal, from, &mut None, ""),
+        Some(name) => {
+            if files::is_name(name) {
+                answer_with_log(rt, s, journal, from, name);
+            } else {
+                say::tell_undone(rt, "kiosk", "", "the name of LOG is empty or too long");
+            }
+        }
     }
-    let mut name = io::buffer();
-    let n = os::arg(1, &mut name);
-    if n == 0 {
-        say::tell_undone(b"kiosk", b"", b"the name of LOG is empty or too long");
-        return;
-    }
-    answer_with_log(s, journal, &name[..n]);
 }
 
-fn main() {
-    files::hold_standard();
-    if files::asks_help() {
-        put_usage(STDOUT_FILENO);
+// With the names that are given.
+fn run<R: Files<File = File> + Print + Eprint, I: Read + IsTerminal>(
+    rt: &R,
+    from: &mut I,
+    names: &[String],
+) {
+    if files::asks_help(names) {
+        let _told = rt.println(USAGE);
         return;
     }
-    let count = os::arg_count();
-    if 2 < count {
-        put_usage(STDERR_FILENO);
-        say::tell_undone(b"kiosk", b"", b"there is more than one name");
+    if 1 < names.len() {
+        let _told = rt.eprintln(USAGE);
+        say::tell_undone(rt, "kiosk", "", "there is more than one name");
         return;
     }
     let mut store = [0u8; 64958];
     fresh::fresh(&mut store);
     let mut journal = [0u8; 1916931];
-    begin(&mut store, &mut journal, count);
+    begin(rt, &mut store, &mut journal, from, names);
+}
+
+fn main(rt: HostRuntime) {
+    let held = files::hold_standard(&rt);
+    match files::names(&rt) {
+        Ok(names) => run(&rt, &mut rt.stdin(), &names),
+        Err(e) => say::tell_undone(&rt, "kiosk", "", files::no_names(e)),
+    }
+    drop(held);
 }

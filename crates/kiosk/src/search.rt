@@ -1,15 +1,16 @@
 // Whether a record begins anywhere in a file.
 use records::frame;
 use records::frame::Framed;
+use std::io;
+use std::io::{Read, Seek, SeekFrom};
 use values::bytes;
 
-// What stands at a place of a file: what can begin a record, something else, its end, or what can't be read.
+// What stands at a place of a file: what can begin a record, something else, or its end.
 #[derive(Clone, Copy)]
 pub enum Seen {
     Record,
     Other,
     End,
-    Failed,
 }
 
 // Whether the bytes, four or the fewer that a file ends with, can begin a record: no bad length, version byte 1, operation 1 to 15.
@@ -31,44 +32,37 @@ fn can_begin(head: &[u8]) -> bool {
 }
 
 // Goes on from behind four bytes, of which the first two are the length of what follows them, to the next record.
-fn pass(log: i32, size: u64) {
+fn pass<F: Seek>(log: &mut F, size: u64) {
     if size <= 65535 {
-        libc::lseek(log, -2, libc::SEEK_CUR);
-        libc::lseek(log, size as i64, libc::SEEK_CUR);
+        let _length = log.seek(SeekFrom::Current(-2));
+        let _next = log.seek(SeekFrom::Current(size as i64));
     }
 }
 
 // Looks at one record, and goes on to the next.
-fn look(log: i32) -> Seen {
+fn look<F: Read + Seek>(log: &mut F) -> io::Result<Seen> {
     let mut head = [0u8; 4];
-    let got = libc::read(log, &mut head);
-    if got < 0 {
-        return Seen::Failed;
-    }
-    let n = io::count(got, &head);
+    let n = log.read(&mut head)?;
     if can_begin(&head[..n]) {
-        return Seen::Record;
+        return Ok(Seen::Record);
     }
     if n < 4 {
-        return Seen::End;
+        return Ok(Seen::End);
     }
     pass(log, bytes::get(&head[0..2]));
-    Seen::Other
+    Ok(Seen::Other)
 }
 
 // What is found in a file that is searched from its start for what can begin a record. No log begins with as many broken records as are
 // counted down here.
-pub fn search(log: i32) -> Seen {
-    let mut left: usize = 65536;
-    while 0 < left {
-        let seen = look(log);
-        match seen {
+pub fn search<F: Read + Seek>(log: &mut F) -> io::Result<Seen> {
+    for _ in 0..65536 {
+        match look(log)? {
             Seen::Other => {}
-            _ => {
-                return seen;
+            seen => {
+                return Ok(seen);
             }
         }
-        left -= 1;
     }
-    Seen::End
+    Ok(Seen::End)
 }

@@ -1,9 +1,14 @@
 // The files that are to hold store and journal afterwards: each written as a new file beside the old one, and once both are on the disk they take
 // its name one after the other.
-ghost use Rattle.std.specs.Prelude.{◌≡◌, ◌≤◌, length};
+ghost use Rattle.std.specs.Prelude.{◌≡◌, ◌≤◌, length, IfOk, IfSome, string_bytes, string_len};
+ghost use Rattle.lent.specs.Names.{new_name, IsNewName};
 
 use files::{path, say};
-use values::bytes;
+use std::alloc::{AllocError, Global};
+use std::fs::{OpenFile, OpenOptions};
+use std::io::{ErrorKind, Write};
+use std::rt::Files;
+use std::{fs, io};
 
 // Whether both are kept: under their names and on the disk, not at all, one without the other, or under their names and perhaps not on the disk.
 #[derive(Clone, Copy)]
@@ -24,11 +29,11 @@ enum InTurn {
     Unsure,
 }
 
-// A new file: its descriptor, or -1, how long its name is, and which of the names to try it is.
-#[derive(Clone, Copy)]
-struct New {
-    file: i32,
-    length: usize,
+// A new file, its name, and which of the names to try it is.
+#[derive(Drop)]
+struct New<F> {
+    file: F,
+    name: String,
     number: u8,
 }
 
@@ -36,277 +41,315 @@ struct New {
 const LONGEST: usize = 4090;
 
 // The k-th name to try for a new file: AFTER.new, then AFTER.new1 to AFTER.new9.
-fn put_name(name: &mut [u8], after: &[u8], k: u8) -> usize
-    requires name_len { length name.old ≡ 4096 }
+fn put_name(alloc: Global, after: &str, k: u8) -> Result<String, AllocError>
     requires after_len_bound { length after.now ≤ 4090 }
     requires k_bound { k ≤ 9 }
-    ensures { (result ≤ 4096) × (length name.new ≡ 4096) }
+    ensures room { IfOk result (λ name. string_len name ≤ 4095) }
+    ensures text { IfOk result (λ name. string_bytes name ≡ new_name after.now k) }
 {
-    let n = after.len();
-    let e = n + 4;
-    bytes::copy(&mut name[0..n], after);
-    bytes::copy(&mut name[n..e], b".new");
-    if k == 0 {
-        return e;
+    let mut name = String::from_str(alloc, after)?;
+    name.push_str(".new")?;
+    if 0 < k {
+        name.push(char::from(b'0' + k))?;
     }
-    name[e] = b'0' + k;
-    e + 1
+    Ok(name)
+}
+
+// Makes the k-th file to try. One that stands there already is left alone.
+fn make_one<R: Files>(rt: &R, name: &str) -> io::Result<R::File> {
+    OpenOptions::new()
+        .write(true)
+        .create_new(true)
+        .open(rt, name)
 }
 
 // Makes a file beside AFTER. One that stands there already is left alone, whosever it is, and the next name is tried.
-fn make(name: &mut [u8], after: &[u8]) -> New
-    requires name_len { length name.old ≡ 4096 }
-    requires after_len_bound { length after.now ≤ 4090 }
-    ensures { (result.length ≤ 4096) × (length name.new ≡ 4096) × (result.number ≤ 9) }
+fn make<R: Files + Eprint + AllocGlobal>(rt: &R, after: &str) -> Option<New<R::File>>
+    requires { length after.now ≤ 4090 }
+    ensures room { IfSome result (λ new. (string_len new.name ≤ 4095) × (new.number ≤ 9)) }
+    ensures text { IfSome result (λ new. string_bytes new.name ≡ new_name after.now new.number) }
 {
-    let mut k = 0;
-    while k < 10 {
-        let n = put_name(name, after, k);
-        let file = os::create(&name[0..n]);
-        if 0 <= file {
-            return New {
-                file,
-                length: n,
-                number: k,
-            };
+    for number in 0..10 {
+        let name = match put_name(rt.alloc(), after, number) {
+            Ok(name) => name,
+            Err(e) => {
+                say::complain(rt, after, io::Error::from(e));
+                return None;
+            }
+        };
+        match make_one(rt, &name) {
+            Ok(file) => {
+                return Some(New { file, name, number });
+            }
+            Err(e) => {
+                if e.kind() != ErrorKind::AlreadyExists {
+                    say::complain(rt, &name, e);
+                    return None;
+                }
+            }
         }
-        if os::errno() != libc::EEXIST {
-            os::fail(&name[0..n]);
-            return New {
-                file: -1,
-                length: 0,
-                number: 0,
-            };
-        }
-        k += 1;
     }
     say::complain(
+        rt,
         after,
-        b"ten files beside it with .new at their ends are in the way",
+        "ten files beside it with .new at their ends are in the way",
     );
-    New {
-        file: -1,
-        length: 0,
-        number: 0,
-    }
+    None
 }
 
-// Whether the bytes came into the file and onto the disk.
-fn put(file: i32, s: &[u8]) -> bool {
-    if !io::write_all(file, s) {
-        return false;
-    }
-    libc::fsync(file) == 0
+// Brings the bytes into the file and onto the disk.
+fn put<F: Write + OpenFile>(file: &mut F, s: &[u8]) -> io::Result<()> {
+    file.write_all(s)?;
+    file.sync_all()
 }
 
-// Writes bytes to a new file beside AFTER, and answers how long its name is, or 0 once the cause is said and no such file is left.
-fn write(name: &mut [u8], after: &[u8], s: &[u8]) -> usize
-    requires { length name.old ≡ 4096 }
-    ensures { (result ≤ 4096) × (length name.new ≡ 4096) }
+// Removes a new file.
+fn remove(rt: &impl Files, name: &str) {
+    let _removed = fs::remove_file(rt, name);
+}
+
+// Writes bytes to a new file beside AFTER, and answers its name, or none once the cause is said and no such file is left.
+fn write<R: Files + Eprint + AllocGlobal>(rt: &R, after: &str, s: &[u8]) -> Option<String>
+    ensures room { IfSome result (λ name. string_len name ≤ 4095) }
+    ensures text { IfSome result (λ name. IsNewName after.now (string_bytes name)) }
 {
     if LONGEST < after.len() {
-        say::complain(after, b"this name is too long");
-        return 0;
+        say::complain(rt, after, "this name is too long");
+        return None;
     }
-    let new = make(name, after);
-    let file = new.file;
-    if file < 0 {
-        return 0;
+    let New {
+        mut file,
+        name,
+        number: _,
+    } = make(rt, after)?;
+    match put(&mut file, s) {
+        Ok(()) => Some(name),
+        Err(e) => {
+            say::complain(rt, &name, e);
+            remove(rt, &name);
+            None
+        }
     }
-    let n = new.length;
-    if !put(file, s) {
-        os::fail(&name[0..n]);
-        libc::close(file);
-        os::unlink(&name[0..n]);
-        return 0;
-    }
-    libc::close(file);
-    n
+}
+
+// Opens a file for reading and writing as it is. A pipe is opened for both ways, so that nobody is waited for.
+fn open_update<R: Files>(rt: &R, path: &str) -> io::Result<R::File> {
+    OpenOptions::new().read(true).write(true).open(rt, path)
 }
 
 // Whether another file may take AFTER's name: none has it, or a file that this user may write and a disk keeps. A link, a device and a pipe
 // stay what they are.
-fn may_replace(after: &[u8]) -> bool {
-    if path::is_link(after) {
-        say::complain(after, b"this is a link; name the file that it stands for");
+fn may_replace<R: Files + Eprint>(rt: &R, after: &str) -> bool {
+    if path::is_link(rt, after) {
+        say::complain(
+            rt,
+            after,
+            "this is a link; name the file that it stands for",
+        );
         return false;
     }
-    let old = os::open_update(after);
-    if old < 0 {
-        if os::errno() == libc::ENOENT {
-            return true;
+    match open_update(rt, after) {
+        Ok(old) => {
+            let kept = files::is_kept(&old);
+            if !kept {
+                say::complain(rt, after, "this is no plain file");
+            }
+            kept
         }
-        os::fail(after);
-        return false;
+        Err(e) => {
+            if e.kind() == ErrorKind::NotFound {
+                return true;
+            }
+            say::complain(rt, after, e);
+            false
+        }
     }
-    let kept = files::is_kept(old);
-    libc::close(old);
-    if !kept {
-        say::complain(after, b"this is no plain file");
-    }
-    kept
 }
 
-// Whether anything has this name. A pipe is opened for both ways, so that nobody is waited for.
-fn is_there(path: &[u8]) -> bool {
-    let fd = os::open_update(path);
-    if 0 <= fd {
-        libc::close(fd);
-        return true;
+// Whether anything has this name.
+fn is_there<R: Files>(rt: &R, path: &str) -> bool {
+    match open_update(rt, path) {
+        Ok(_) => true,
+        Err(e) => e.kind() != ErrorKind::NotFound,
     }
-    os::errno() != libc::ENOENT
 }
 
 // Whether a new file beside one name stands beside the other too, and goes with it.
-fn goes_with(name: &mut [u8], one: &[u8], other: &[u8]) -> bool
-    requires name_len { length name.old ≡ 4096 }
+fn goes_with<R: Files + Eprint + AllocGlobal>(
+    rt: &R,
+    one: &str,
+    other: &str,
+) -> Result<bool, AllocError>
     requires one_len_bound { length one.now ≤ 4090 }
     requires other_len_bound { length other.now ≤ 4090 }
 {
-    let new = make(name, one);
-    let file = new.file;
-    if file < 0 {
-        return false;
-    }
-    libc::close(file);
-    let mut beside = io::buffer();
-    let m = put_name(&mut beside, other, new.number);
-    let there = is_there(&beside[0..m]);
-    let n = new.length;
-    os::unlink(&name[0..n]);
-    there && !is_there(&beside[0..m])
+    let Some(
+        New {
+            file: _,
+            name,
+            number,
+        },
+    ) = make(rt, one)
+    else {
+        return Ok(false);
+    };
+    let beside = put_name(rt.alloc(), other, number);
+    let there = match &beside {
+        Ok(beside) => is_there(rt, beside),
+        Err(_) => false,
+    };
+    remove(rt, &name);
+    Ok(there && !is_there(rt, &beside?))
 }
 
 // Whether two names stand for one file, made or not, however the folders in them are written.
-pub fn are_one(one: &[u8], other: &[u8]) -> bool {
+pub fn are_one<R: Files + Eprint + AllocGlobal>(
+    rt: &R,
+    one: &str,
+    other: &str,
+) -> Result<bool, AllocError> {
     if LONGEST < one.len() || LONGEST < other.len() {
-        return false;
+        return Ok(false);
     }
-    let mut name = io::buffer();
-    goes_with(&mut name, one, other)
+    goes_with(rt, one, other)
 }
 
 // Whether there is room for new files with as many bytes beside both: they are made and removed again. Neither may stand where the other is to go.
-fn have_room(store_after: &[u8], s: &[u8], journal_after: &[u8], j: &[u8]) -> bool {
-    let store = is_there(store_after);
-    let journal = is_there(journal_after);
-    let mut name = io::buffer();
-    let n = write(&mut name, store_after, s);
-    if n == 0 {
+fn have_room<R: Files + Eprint + AllocGlobal>(
+    rt: &R,
+    store_after: &str,
+    s: &[u8],
+    journal_after: &str,
+    j: &[u8],
+) -> bool {
+    let store = is_there(rt, store_after);
+    let journal = is_there(rt, journal_after);
+    let Some(name) = write(rt, store_after, s) else {
         return false;
-    }
-    let mut next = io::buffer();
-    let m = write(&mut next, journal_after, j);
-    let free = is_there(store_after) == store && is_there(journal_after) == journal;
-    os::unlink(&name[0..n]);
-    if m == 0 {
+    };
+    let next = write(rt, journal_after, j);
+    let free = is_there(rt, store_after) == store && is_there(rt, journal_after) == journal;
+    remove(rt, &name);
+    let Some(next) = next else {
         return false;
-    }
-    os::unlink(&next[0..m]);
+    };
+    remove(rt, &next);
     if !free {
         say::complain(
+            rt,
             journal_after,
-            b"this name or the store's is that of the new file beside the other",
+            "this name or the store's is that of the new file beside the other",
         );
     }
     free
 }
 
-// The folders of both files, open; -1 where they can't be kept.
-#[derive(Clone, Copy)]
-pub struct Folders {
-    pub store: i32,
-    pub journal: i32,
+// The folders of both files, open.
+#[derive(Drop)]
+pub struct Folders<F> {
+    store: F,
+    journal: F,
 }
 
-const NONE: Folders = Folders {
-    store: -1,
-    journal: -1,
-};
-
-// Whether both folders are open and both files can be kept in them. Else the cause is said.
-fn is_ready(
-    folders: Folders,
-    store_after: &[u8],
+// Whether both files can be kept in their folders. Else the cause is said.
+fn is_ready<R: Files + Eprint + AllocGlobal>(
+    rt: &R,
+    folders: &Folders<R::File>,
+    store_after: &str,
     s: &[u8],
-    journal_after: &[u8],
+    journal_after: &str,
     j: &[u8],
 ) -> bool {
-    if folders.store < 0 || folders.journal < 0 {
+    match are_one(rt, store_after, journal_after) {
+        Ok(false) => {}
+        Ok(true) => {
+            say::complain(rt, journal_after, "this is to hold the store");
+            return false;
+        }
+        Err(e) => {
+            say::complain(rt, journal_after, io::Error::from(e));
+            return false;
+        }
+    }
+    if !have_room(rt, store_after, s, journal_after, j) {
         return false;
     }
-    if are_one(store_after, journal_after) {
-        say::complain(journal_after, b"this is to hold the store");
-        return false;
-    }
-    if !have_room(store_after, s, journal_after, j) {
-        return false;
-    }
-    settle(store_after, folders.store) && settle(journal_after, folders.journal)
-}
-
-pub fn close(folders: Folders) {
-    libc::close(folders.store);
-    libc::close(folders.journal);
+    settle(rt, store_after, &folders.store) && settle(rt, journal_after, &folders.journal)
 }
 
 // Tries whether both can be kept, and answers their folders, or none once the cause is said.
-pub fn prepare(store_after: &[u8], s: &[u8], journal_after: &[u8], j: &[u8]) -> Folders {
-    if !may_replace(store_after) || !may_replace(journal_after) {
-        return NONE;
+pub fn prepare<R: Files + Eprint + AllocGlobal>(
+    rt: &R,
+    store_after: &str,
+    s: &[u8],
+    journal_after: &str,
+    j: &[u8],
+) -> Option<Folders<R::File>> {
+    if !may_replace(rt, store_after) || !may_replace(rt, journal_after) {
+        return None;
     }
+    let store = path::open_folder(rt, store_after);
+    let journal = path::open_folder(rt, journal_after);
     let folders = Folders {
-        store: path::open_folder(store_after),
-        journal: path::open_folder(journal_after),
+        store: store?,
+        journal: journal?,
     };
-    if is_ready(folders, store_after, s, journal_after, j) {
-        return folders;
+    if is_ready(rt, &folders, store_after, s, journal_after, j) {
+        Some(folders)
+    } else {
+        None
     }
-    close(folders);
-    NONE
 }
 
 // A new file takes AFTER's name, or is removed once the cause is said.
-fn put_in_place(new: &[u8], after: &[u8]) -> bool {
-    if os::rename(new, after) == 0 {
-        return true;
+fn put_in_place<R: Files + Eprint>(rt: &R, new: &str, after: &str) -> bool {
+    match fs::rename(rt, new, after) {
+        Ok(()) => true,
+        Err(e) => {
+            say::complain(rt, after, e);
+            remove(rt, new);
+            false
+        }
     }
-    os::fail(after);
-    os::unlink(new);
-    false
 }
 
 // Whether the folder of a file that got its name is on the disk.
-fn settle(after: &[u8], folder: i32) -> bool {
-    if libc::fsync(folder) == 0 {
-        return true;
+fn settle<F: OpenFile>(rt: &impl Eprint, after: &str, folder: &F) -> bool {
+    match folder.sync_all() {
+        Ok(()) => true,
+        Err(e) => {
+            say::complain(rt, after, e);
+            false
+        }
     }
-    os::fail(after);
-    false
 }
 
 // Puts bytes in the place of two files, the second once the first is on the disk.
-fn put_in_turn(first: &[u8], folder: i32, a: &[u8], second: &[u8], other: i32, b: &[u8]) -> InTurn {
-    let mut name = io::buffer();
-    let n = write(&mut name, first, a);
-    if n == 0 {
+fn put_in_turn<R: Files + Eprint + AllocGlobal>(
+    rt: &R,
+    first: &str,
+    folder: &R::File,
+    a: &[u8],
+    second: &str,
+    other: &R::File,
+    b: &[u8],
+) -> InTurn {
+    let Some(name) = write(rt, first, a) else {
+        return InTurn::Neither;
+    };
+    let Some(next) = write(rt, second, b) else {
+        remove(rt, &name);
+        return InTurn::Neither;
+    };
+    if !put_in_place(rt, &name, first) {
+        remove(rt, &next);
         return InTurn::Neither;
     }
-    let mut next = io::buffer();
-    let m = write(&mut next, second, b);
-    if m == 0 {
-        os::unlink(&name[0..n]);
-        return InTurn::Neither;
-    }
-    if !put_in_place(&name[0..n], first) {
-        os::unlink(&next[0..m]);
-        return InTurn::Neither;
-    }
-    let settled = settle(first, folder);
-    if !put_in_place(&next[0..m], second) {
+    let settled = settle(rt, first, folder);
+    if !put_in_place(rt, &next, second) {
         return InTurn::First;
     }
-    if !settle(second, other) || !settled {
+    if !settle(rt, second, other) || !settled {
         return InTurn::Unsure;
     }
     InTurn::Both
@@ -319,20 +362,21 @@ fn is_open(j: &[u8]) -> bool {
 // Puts the store and its journal in the places of the two files. A power cut between the two leaves one new and one old, so the order counts. While a
 // batch is open the journal goes first: its places hold what stood at the opening, and taken back over the older store they lead there too. Once
 // none is open the store goes first: a batch that was taken back is then taken back once more, and that changes nothing.
-pub fn replace(
-    folders: Folders,
-    store_after: &[u8],
+pub fn replace<R: Files + Eprint + AllocGlobal>(
+    rt: &R,
+    folders: &Folders<R::File>,
+    store_after: &str,
     s: &[u8],
-    journal_after: &[u8],
+    journal_after: &str,
     j: &[u8],
 ) -> Kept {
-    let folder = folders.store;
-    let other = folders.journal;
+    let folder = &folders.store;
+    let other = &folders.journal;
     let open = is_open(j);
     let put = if open {
-        put_in_turn(journal_after, other, j, store_after, folder, s)
+        put_in_turn(rt, journal_after, other, j, store_after, folder, s)
     } else {
-        put_in_turn(store_after, folder, s, journal_after, other, j)
+        put_in_turn(rt, store_after, folder, s, journal_after, other, j)
     };
     match put {
         InTurn::Both => Kept::Yes,

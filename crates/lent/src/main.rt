@@ -5,30 +5,35 @@
 // Nothing is on standard error where all went well. Else its last line begins with `lent: not done:` and names the last two files, for a script
 // to test; where one of them is replaced and the other is not, it says which.
 #![tactic(auto)]
+
 mod keep; // two files replaced whole
 
 use files::say;
 use keep::Kept;
-use libc::{STDERR_FILENO, STDOUT_FILENO};
 use serve::End;
+use std::fs::File;
+use std::io;
+use std::io::Read;
+use std::rt::Files;
 
-// Says why not every record is answered, and answers whether all are. It comes right behind the run: errno is still the failing call's.
-fn is_whole(end: End, store: &[u8], records: &[u8]) -> bool {
+// Says why not every record is answered, and answers whether all are.
+fn is_whole(rt: &impl Eprint, end: End, store: &str, records: &str) -> bool {
     match end {
         End::Whole => {
             return true;
         }
         End::Unsound => {
             say::complain(
+                rt,
                 store,
-                b"this is no sound store, or its journal is not sound",
+                "this is no sound store, or its journal is not sound",
             );
         }
-        End::Unread => {
-            os::fail(records);
+        End::Unread(e) => {
+            say::complain(rt, records, e);
         }
-        _ => {
-            os::fail(b"standard output");
+        End::Unwritten(e) | End::Unlogged(e) => {
+            say::complain(rt, "standard output", e);
         }
     }
     false
@@ -36,73 +41,83 @@ fn is_whole(end: End, store: &[u8], records: &[u8]) -> bool {
 
 // The records of an open file over store and journal, which then take the places of the last two. Whether both can be kept is tried before anything
 // is answered.
-fn run(
+fn run<R: Files + Print + Eprint + AllocGlobal, F: Read>(
+    rt: &R,
     s: &mut [u8],
     j: &mut [u8],
-    from: i32,
-    store: &[u8],
-    records: &[u8],
-    store_after: &[u8],
-    journal_after: &[u8],
+    from: &mut F,
+    store: &str,
+    records: &str,
+    store_after: &str,
+    journal_after: &str,
 ) -> Kept {
-    let folders = keep::prepare(store_after, s, journal_after, j);
-    if folders.store < 0 {
+    let Some(folders) = keep::prepare(rt, store_after, s, journal_after, j) else {
+        return Kept::No;
+    };
+    let report = serve::serve(s, j, from, &mut io::writer(rt), &mut None);
+    if !is_whole(rt, report.end, store, records) {
         return Kept::No;
     }
-    let report = serve::serve(s, j, from, STDOUT_FILENO, serve::NONE);
-    let end = report.end;
-    let mut kept = Kept::No;
-    if is_whole(end, store, records) {
-        kept = keep::replace(folders, store_after, s, journal_after, j);
-    }
-    keep::close(folders);
-    kept
+    keep::replace(rt, &folders, store_after, s, journal_after, j)
 }
 
 // The records that the third name stands for over a store and a journal that are read.
-fn answer(
+fn answer<R: Files + Print + Eprint + AllocGlobal>(
+    rt: &R,
     s: &mut [u8],
     j: &mut [u8],
-    store: &[u8],
-    records: &[u8],
-    store_after: &[u8],
-    journal_after: &[u8],
+    store: &str,
+    records: &str,
+    store_after: &str,
+    journal_after: &str,
 ) -> Kept {
-    let from = os::open_read(records);
-    if from < 0 {
-        os::fail(records);
-        return Kept::No;
+    match File::open(rt, records) {
+        Ok(mut from) => run(
+            rt,
+            s,
+            j,
+            &mut from,
+            store,
+            records,
+            store_after,
+            journal_after,
+        ),
+        Err(e) => {
+            say::complain(rt, records, e);
+            Kept::No
+        }
     }
-    let kept = run(s, j, from, store, records, store_after, journal_after);
-    libc::close(from);
-    kept
 }
 
 // The bytes of two open files as store and journal, read into slices.
-fn take(
-    fd: i32,
+fn take<R: Files + Print + Eprint + AllocGlobal>(
+    rt: &R,
+    file: &mut R::File,
     s: &mut [u8],
-    page: i32,
+    page: &mut R::File,
     j: &mut [u8],
-    store: &[u8],
-    journal: &[u8],
-    records: &[u8],
-    store_after: &[u8],
-    journal_after: &[u8],
+    store: &str,
+    journal: &str,
+    records: &str,
+    store_after: &str,
+    journal_after: &str,
 ) -> Kept {
-    let loaded = files::load(fd, s);
-    if loaded.failed {
-        os::fail(store);
-        return Kept::No;
-    }
-    let noted = files::load(page, j);
-    if noted.failed {
-        os::fail(journal);
-        return Kept::No;
-    }
-    let n = loaded.count;
-    let m = noted.count;
+    let n = match files::load(file, s) {
+        Ok(n) => n,
+        Err(e) => {
+            say::complain(rt, store, e);
+            return Kept::No;
+        }
+    };
+    let m = match files::load(page, j) {
+        Ok(m) => m,
+        Err(e) => {
+            say::complain(rt, journal, e);
+            return Kept::No;
+        }
+    };
     answer(
+        rt,
         &mut s[0..n],
         &mut j[0..m],
         store,
@@ -112,21 +127,34 @@ fn take(
     )
 }
 
+// Opens a file for reading, or says why it can't be.
+fn open<R: Files + Eprint>(rt: &R, name: &str) -> Option<R::File> {
+    match File::open(rt, name) {
+        Ok(file) => Some(file),
+        Err(e) => {
+            say::complain(rt, name, e);
+            None
+        }
+    }
+}
+
 // The same in rooms with a byte more than the largest store and the largest journal have, so that a longer file is neither. Their types say their
 // lengths: of a new array lent as a slice the prover would count the zeros, for which it lacks the stack.
-fn lend(
-    fd: i32,
+fn lend<R: Files + Print + Eprint + AllocGlobal>(
+    rt: &R,
+    file: &mut R::File,
     room: &mut [u8; 3201213],
-    page: i32,
+    page: &mut R::File,
     pages: &mut [u8; 1916932],
-    store: &[u8],
-    journal: &[u8],
-    records: &[u8],
-    store_after: &[u8],
-    journal_after: &[u8],
+    store: &str,
+    journal: &str,
+    records: &str,
+    store_after: &str,
+    journal_after: &str,
 ) -> Kept {
     take(
-        fd,
+        rt,
+        file,
         room,
         page,
         pages,
@@ -139,158 +167,132 @@ fn lend(
 }
 
 // Five names.
-fn case(
-    store: &[u8],
-    journal: &[u8],
-    records: &[u8],
-    store_after: &[u8],
-    journal_after: &[u8],
+fn case<R: Files + Print + Eprint + AllocGlobal>(
+    rt: &R,
+    store: &str,
+    journal: &str,
+    records: &str,
+    store_after: &str,
+    journal_after: &str,
 ) -> Kept {
-    let fd = os::open_read(store);
-    if fd < 0 {
-        os::fail(store);
+    let Some(mut file) = open(rt, store) else {
         return Kept::No;
-    }
-    let page = os::open_read(journal);
-    if page < 0 {
-        os::fail(journal);
-        libc::close(fd);
+    };
+    let Some(mut page) = open(rt, journal) else {
         return Kept::No;
-    }
+    };
     let mut room = [0u8; 3201213];
     let mut pages = [0u8; 1916932];
-    let kept = lend(
-        fd,
+    lend(
+        rt,
+        &mut file,
         &mut room,
-        page,
+        &mut page,
         &mut pages,
         store,
         journal,
         records,
         store_after,
         journal_after,
-    );
-    libc::close(page);
-    libc::close(fd);
-    kept
+    )
 }
 
 // The last line where it was not done: what is with the one file, and with the other.
-fn tell(one: &[u8], and: &[u8], other: &[u8], what: &[u8]) {
-    io::write_all(STDERR_FILENO, b"lent: not done: ");
-    io::write_all(STDERR_FILENO, one);
-    io::write_all(STDERR_FILENO, and);
-    io::write_all(STDERR_FILENO, other);
-    io::write_all(STDERR_FILENO, what);
-    io::write_all(STDERR_FILENO, b"\n");
+fn tell(rt: &impl Eprint, one: &str, and: &str, other: &str, what: &str) {
+    let _said = eprintln!(rt; "lent: not done: {one}{and}{other}{what}");
 }
 
-fn tell_kept(kept: Kept, store_after: &[u8], journal_after: &[u8]) {
+fn tell_kept(rt: &impl Eprint, kept: Kept, store_after: &str, journal_after: &str) {
     match kept {
         Kept::Yes => {}
         Kept::No => {
-            tell(store_after, b" and ", journal_after, b" are as they were");
+            tell(rt, store_after, " and ", journal_after, " are as they were");
         }
         Kept::StoreOnly => {
             tell(
+                rt,
                 store_after,
-                b" is replaced, but ",
+                " is replaced, but ",
                 journal_after,
-                b" is as it was: they are no longer of one run",
+                " is as it was: they are no longer of one run",
             );
         }
         Kept::JournalOnly => {
             tell(
+                rt,
                 journal_after,
-                b" is replaced, but ",
+                " is replaced, but ",
                 store_after,
-                b" is as it was: they are no longer of one run",
+                " is as it was: they are no longer of one run",
             );
         }
         Kept::Unsure => {
             tell(
+                rt,
                 store_after,
-                b" and ",
+                " and ",
                 journal_after,
-                b" are replaced, but a power cut could still bring an old one back",
+                " are replaced, but a power cut could still bring an old one back",
             );
         }
     }
 }
 
 // The case that five arguments name.
-fn run_case(h: usize, i: usize, j: usize, k: usize, l: usize) {
-    let mut store = io::buffer();
-    let mut journal = io::buffer();
-    let mut records = io::buffer();
-    let mut store_after = io::buffer();
-    let mut journal_after = io::buffer();
-    let a = os::arg(h, &mut store);
-    let b = os::arg(i, &mut journal);
-    let c = os::arg(j, &mut records);
-    let d = os::arg(k, &mut store_after);
-    let e = os::arg(l, &mut journal_after);
-    if a == 0 || b == 0 || c == 0 || d == 0 || e == 0 {
-        say::tell_undone(b"lent", b"", b"a name is empty or too long");
+fn run_case<R: Files + Print + Eprint + AllocGlobal>(
+    rt: &R,
+    store: &str,
+    journal: &str,
+    records: &str,
+    store_after: &str,
+    journal_after: &str,
+) {
+    if !files::is_name(store)
+        || !files::is_name(journal)
+        || !files::is_name(records)
+        || !files::is_name(store_after)
+        || !files::is_name(journal_after)
+    {
+        say::tell_undone(rt, "lent", "", "a name is empty or too long");
         return;
     }
-    let kept = case(
-        &store[..a],
-        &journal[..b],
-        &records[..c],
-        &store_after[..d],
-        &journal_after[..e],
-    );
-    tell_kept(kept, &store_after[..d], &journal_after[..e]);
+    let kept = case(rt, store, journal, records, store_after, journal_after);
+    tell_kept(rt, kept, store_after, journal_after);
 }
 
-fn put_usage(to: i32) {
-    io::write_all(
-        to,
-        b"usage: lent STORE JOURNAL RECORDS STORE_AFTER JOURNAL_AFTER [five more ..]\n",
-    );
-    io::write_all(
-        to,
-        b"Runs the records in RECORDS over the store in STORE and its journal in JOURNAL, writes their answers to\n",
-    );
-    io::write_all(
-        to,
-        b"standard output, and store and journal afterwards to STORE_AFTER and JOURNAL_AFTER, which may be STORE and\n",
-    );
-    io::write_all(
-        to,
-        b"JOURNAL. A journal with no batch open is zeros: 3 bytes and 234 for each of 1 to 8192 places.\n",
-    );
-    io::write_all(
-        to,
-        b"Both are replaced whole or stay as they were; then, or where one is replaced without the other, the last\n",
-    );
-    io::write_all(
-        to,
-        b"line on standard error begins with 'lent: not done:'.\n",
-    );
-}
+const USAGE: &str = "usage: lent STORE JOURNAL RECORDS STORE_AFTER JOURNAL_AFTER [five more ..]
+Runs the records in RECORDS over the store in STORE and its journal in JOURNAL, writes their answers to
+standard output, and store and journal afterwards to STORE_AFTER and JOURNAL_AFTER, which may be STORE and
+JOURNAL. A journal with no batch open is zeros: 3 bytes and 234 for each of 1 to 8192 places.
+Both are replaced whole or stay as they were; then, or where one is replaced without the other, the last
+line on standard error begins with 'lent: not done:'.";
 
-fn main() {
-    files::hold_standard();
-    if files::asks_help() {
-        put_usage(STDOUT_FILENO);
+// The cases of names, five by five.
+fn run_all<R: Files + Print + Eprint + AllocGlobal>(rt: &R, names: &[String]) {
+    if files::asks_help(names) {
+        let _told = rt.println(USAGE);
         return;
     }
-    let count = os::arg_count();
-    if count < 6 || count % 5 != 1 {
-        put_usage(STDERR_FILENO);
+    if names.len() == 0 || names.len() % 5 != 0 {
+        let _told = rt.eprintln(USAGE);
         say::tell_undone(
-            b"lent",
-            b"",
-            b"the names are not STORE JOURNAL RECORDS STORE_AFTER JOURNAL_AFTER, once or more often",
+            rt,
+            "lent",
+            "",
+            "the names are not STORE JOURNAL RECORDS STORE_AFTER JOURNAL_AFTER, once or more often",
         );
         return;
     }
-    let last = count - 4;
-    let mut i = 1;
-    while i < last {
-        run_case(i, i + 1, i + 2, i + 3, i + 4);
-        i += 5;
+    for five in names.chunks_exact(5) {
+        run_case(rt, &five[0], &five[1], &five[2], &five[3], &five[4]);
     }
+}
+
+fn main(rt: HostRuntime) {
+    let held = files::hold_standard(&rt);
+    match files::names(&rt) {
+        Ok(names) => run_all(&rt, &names),
+        Err(e) => say::tell_undone(&rt, "lent", "", files::no_names(e)),
+    }
+    drop(held);
 }
