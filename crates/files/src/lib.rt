@@ -75,7 +75,7 @@ const NAME_MOST: usize = 4096;
 
 // Whether a name is neither empty nor too long.
 pub fn is_name(name: &str) -> bool
-    ensures { IsTrue result ↔ (0 < length name.now) × (length name.now ≤ 4096) }
+    ensures { IsTrue result ↔ ((0 < length name.now) × (length name.now ≤ 4096)) }
 {
     0 < name.len() && name.len() <= NAME_MOST
 }
