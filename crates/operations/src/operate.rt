@@ -41,7 +41,8 @@ fn drop(s: &mut [u8], p: Profile, places: usize, j: &[u8], rec: &[u8], at: usize
 {
     match read::name_at(rec, at) {
         ReadName::Named { name, next } => {
-            if page::is_open(j) {
+            let open = page::is_open(j);
+            if open {
                 return answer::refused(Refusal::InsideBatch, 0);
             }
             let lenient = record::byte_of(rec, next) == 1;

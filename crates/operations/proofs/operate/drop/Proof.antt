@@ -15,16 +15,16 @@ name-at-requires c κs = search rules
 enum-known-name : tie.Need-enum_known-name
 enum-known-name c = search rules
 
-is-open-requires : tie.Need-is_open-requires
+is-open-requires : tie.Need-is_open-open-requires
 is-open-requires c κs = omega (arith, book-long (journaled (laid-books c.requires.0)))
 
 refused-requires : tie.Need-refused-requires
 refused-requires c κs = search rules
 
-returns : tie.Need-returns-then-is_open
+returns : tie.Need-returns-then-open
 returns c =
     drop-acted _ _ _ (drop-read _ _ _ c.name_at.ensures _ _ c.in-Named.is c.requires.1 _ refl)
-    (inside-refused c.requires.0 _ (sym c.is_open.ensures ∙ c.if-is_open.true) c.refused.result c.refused.ensures)
+    (inside-refused c.requires.0 _ (sym c.is_open-open.ensures ∙ c.if-open.true) c.refused.result c.refused.ensures)
 
 byte-of-requires : tie.Need-byte_of-lenient-requires
 byte-of-requires c κs = search rules
@@ -41,10 +41,10 @@ refused-requires-2 c κs = search rules
 same_length : tie.Need-shape_of-s
 same_length c = search rules
 
-returns-2 : tie.Need-returns-else-is_open
+returns-2 : tie.Need-returns-else-open
 returns-2 c =
     drop-acted _ _ _ (drop-read _ _ _ c.name_at.ensures _ _ c.in-Named.is c.requires.1 _ c.byte_of-lenient.ensures)
-    (outside-settled c.requires.0 _ (sym c.is_open.ensures ∙ c.if-is_open.false) (drop-quiet _ _ _) c.drop_table.ensures)
+    (outside-settled c.requires.0 _ (sym c.is_open-open.ensures ∙ c.if-open.false) (drop-quiet _ _ _) c.drop_table.ensures)
 
 returns-3 : tie.Need-returns-in-Bad
 returns-3 c = absurd (drop-unnamed _ _ _ c.name_at.ensures _ c.in-Bad.is c.requires.1)
