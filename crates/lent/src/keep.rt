@@ -1,10 +1,11 @@
 // The files that are to hold store and journal afterwards: each written as a new file beside the old one, and once both are on the disk they take
 // its name one after the other.
-ghost use Rattle.std.specs.Prelude.{◌≡◌, ◌≤◌, length, IfOk, IfSome, string_bytes, string_len};
+ghost use Rattle.std.specs.Prelude.{◌≡◌, ◌≤◌, length, IfSome};
+ghost use Rattle.arrayvec.specs.ArrayString.{array_string_len};
 ghost use Rattle.lent.specs.Names.{new_name, IsNewName};
 
+use arrayvec::ArrayString;
 use files::{path, say};
-use std::alloc::{AllocError, Global};
 use std::fs::{OpenFile, OpenOptions};
 use std::io::{ErrorKind, Write};
 use std::rt::Files;
@@ -29,11 +30,14 @@ enum InTurn {
     Unsure,
 }
 
+// A name with room for what is put behind it.
+type Name = ArrayString<4096>;
+
 // A new file, its name, and which of the names to try it is.
 #[derive(Drop)]
 struct New<F> {
     file: F,
-    name: String,
+    name: Name,
     number: u8,
 }
 
@@ -41,18 +45,19 @@ struct New<F> {
 const LONGEST: usize = 4090;
 
 // The k-th name to try for a new file: AFTER.new, then AFTER.new1 to AFTER.new9.
-fn put_name(alloc: Global, after: &str, k: u8) -> Result<String, AllocError>
+fn put_name(after: &str, k: u8) -> Name
     requires after_len_bound { length after.now ≤ 4090 }
     requires k_bound { k ≤ 9 }
-    ensures room { IfOk result (λ name. string_len name ≤ 4095) }
-    ensures text { IfOk result (λ name. string_bytes name ≡ new_name after.now k) }
+    ensures room { array_string_len result ≤ 4095 }
+    ensures text { result.bytes ≡ new_name after.now k }
 {
-    let mut name = String::from_str(alloc, after)?;
-    name.push_str(".new")?;
+    let mut name = ArrayString::new();
+    name.push_str(after);
+    name.push_str(".new");
     if 0 < k {
-        name.push(char::from(b'0' + k))?;
+        name.push(char::from(b'0' + k));
     }
-    Ok(name)
+    name
 }
 
 // Makes the k-th file to try. One that stands there already is left alone.
@@ -64,26 +69,20 @@ fn make_one<R: Files>(rt: &R, name: &str) -> io::Result<R::File> {
 }
 
 // Makes a file beside AFTER. One that stands there already is left alone, whosever it is, and the next name is tried.
-fn make<R: Files + Eprint + AllocGlobal>(rt: &R, after: &str) -> Option<New<R::File>>
+fn make<R: Files + Eprint>(rt: &R, after: &str) -> Option<New<R::File>>
     requires { length after.now ≤ 4090 }
-    ensures room { IfSome result (λ new. (string_len new.name ≤ 4095) × (new.number ≤ 9)) }
-    ensures text { IfSome result (λ new. string_bytes new.name ≡ new_name after.now new.number) }
+    ensures room { IfSome result (λ new. (array_string_len new.name ≤ 4095) × (new.number ≤ 9)) }
+    ensures text { IfSome result (λ new. new.name.bytes ≡ new_name after.now new.number) }
 {
     for number in 0..10 {
-        let name = match put_name(rt.alloc(), after, number) {
-            Ok(name) => name,
-            Err(e) => {
-                say::complain(rt, after, io::Error::from(e));
-                return None;
-            }
-        };
-        match make_one(rt, &name) {
+        let name = put_name(after, number);
+        match make_one(rt, name.as_str()) {
             Ok(file) => {
                 return Some(New { file, name, number });
             }
             Err(e) => {
                 if e.kind() != ErrorKind::AlreadyExists {
-                    say::complain(rt, &name, e);
+                    say::complain(rt, name.as_str(), e);
                     return None;
                 }
             }
@@ -109,9 +108,9 @@ fn remove(rt: &impl Files, name: &str) {
 }
 
 // Writes bytes to a new file beside AFTER, and answers its name, or none once the cause is said and no such file is left.
-fn write<R: Files + Eprint + AllocGlobal>(rt: &R, after: &str, s: &[u8]) -> Option<String>
-    ensures room { IfSome result (λ name. string_len name ≤ 4095) }
-    ensures text { IfSome result (λ name. IsNewName after.now (string_bytes name)) }
+fn write<R: Files + Eprint>(rt: &R, after: &str, s: &[u8]) -> Option<Name>
+    ensures room { IfSome result (λ name. array_string_len name ≤ 4095) }
+    ensures text { IfSome result (λ name. IsNewName after.now name.bytes) }
 {
     if LONGEST < after.len() {
         say::complain(rt, after, "this name is too long");
@@ -125,8 +124,9 @@ fn write<R: Files + Eprint + AllocGlobal>(rt: &R, after: &str, s: &[u8]) -> Opti
     match put(&mut file, s) {
         Ok(()) => Some(name),
         Err(e) => {
-            say::complain(rt, &name, e);
-            remove(rt, &name);
+            say::complain(rt, name.as_str(), e);
+            drop(file);
+            remove(rt, name.as_str());
             None
         }
     }
@@ -175,47 +175,33 @@ fn is_there<R: Files>(rt: &R, path: &str) -> bool {
 }
 
 // Whether a new file beside one name stands beside the other too, and goes with it.
-fn goes_with<R: Files + Eprint + AllocGlobal>(
-    rt: &R,
-    one: &str,
-    other: &str,
-) -> Result<bool, AllocError>
+fn goes_with<R: Files + Eprint>(rt: &R, one: &str, other: &str) -> bool
     requires one_len_bound { length one.now ≤ 4090 }
     requires other_len_bound { length other.now ≤ 4090 }
 {
-    let Some(
-        New {
-            file: _,
-            name,
-            number,
-        },
-    ) = make(rt, one)
-    else {
-        return Ok(false);
+    let New { file, name, number } = match make(rt, one) {
+        Some(new) => new,
+        None => {
+            return false;
+        }
     };
-    let beside = put_name(rt.alloc(), other, number);
-    let there = match &beside {
-        Ok(beside) => is_there(rt, beside),
-        Err(_) => false,
-    };
-    remove(rt, &name);
-    Ok(there && !is_there(rt, &beside?))
+    drop(file);
+    let beside = put_name(other, number);
+    let there = is_there(rt, beside.as_str());
+    remove(rt, name.as_str());
+    there && !is_there(rt, beside.as_str())
 }
 
 // Whether two names stand for one file, made or not, however the folders in them are written.
-pub fn are_one<R: Files + Eprint + AllocGlobal>(
-    rt: &R,
-    one: &str,
-    other: &str,
-) -> Result<bool, AllocError> {
+pub fn are_one<R: Files + Eprint>(rt: &R, one: &str, other: &str) -> bool {
     if LONGEST < one.len() || LONGEST < other.len() {
-        return Ok(false);
+        return false;
     }
     goes_with(rt, one, other)
 }
 
 // Whether there is room for new files with as many bytes beside both: they are made and removed again. Neither may stand where the other is to go.
-fn have_room<R: Files + Eprint + AllocGlobal>(
+fn have_room<R: Files + Eprint>(
     rt: &R,
     store_after: &str,
     s: &[u8],
@@ -229,11 +215,11 @@ fn have_room<R: Files + Eprint + AllocGlobal>(
     };
     let next = write(rt, journal_after, j);
     let free = is_there(rt, store_after) == store && is_there(rt, journal_after) == journal;
-    remove(rt, &name);
+    remove(rt, name.as_str());
     let Some(next) = next else {
         return false;
     };
-    remove(rt, &next);
+    remove(rt, next.as_str());
     if !free {
         say::complain(
             rt,
@@ -252,7 +238,7 @@ pub struct Folders<F> {
 }
 
 // Whether both files can be kept in their folders. Else the cause is said.
-fn is_ready<R: Files + Eprint + AllocGlobal>(
+fn is_ready<R: Files + Eprint>(
     rt: &R,
     folders: &Folders<R::File>,
     store_after: &str,
@@ -260,16 +246,9 @@ fn is_ready<R: Files + Eprint + AllocGlobal>(
     journal_after: &str,
     j: &[u8],
 ) -> bool {
-    match are_one(rt, store_after, journal_after) {
-        Ok(false) => {}
-        Ok(true) => {
-            say::complain(rt, journal_after, "this is to hold the store");
-            return false;
-        }
-        Err(e) => {
-            say::complain(rt, journal_after, io::Error::from(e));
-            return false;
-        }
+    if are_one(rt, store_after, journal_after) {
+        say::complain(rt, journal_after, "this is to hold the store");
+        return false;
     }
     if !have_room(rt, store_after, s, journal_after, j) {
         return false;
@@ -278,7 +257,7 @@ fn is_ready<R: Files + Eprint + AllocGlobal>(
 }
 
 // Tries whether both can be kept, and answers their folders, or none once the cause is said.
-pub fn prepare<R: Files + Eprint + AllocGlobal>(
+pub fn prepare<R: Files + Eprint>(
     rt: &R,
     store_after: &str,
     s: &[u8],
@@ -325,7 +304,7 @@ fn settle<F: OpenFile>(rt: &impl Eprint, after: &str, folder: &F) -> bool {
 }
 
 // Puts bytes in the place of two files, the second once the first is on the disk.
-fn put_in_turn<R: Files + Eprint + AllocGlobal>(
+fn put_in_turn<R: Files + Eprint>(
     rt: &R,
     first: &str,
     folder: &R::File,
@@ -338,15 +317,15 @@ fn put_in_turn<R: Files + Eprint + AllocGlobal>(
         return InTurn::Neither;
     };
     let Some(next) = write(rt, second, b) else {
-        remove(rt, &name);
+        remove(rt, name.as_str());
         return InTurn::Neither;
     };
-    if !put_in_place(rt, &name, first) {
-        remove(rt, &next);
+    if !put_in_place(rt, name.as_str(), first) {
+        remove(rt, next.as_str());
         return InTurn::Neither;
     }
     let settled = settle(rt, first, folder);
-    if !put_in_place(rt, &next, second) {
+    if !put_in_place(rt, next.as_str(), second) {
         return InTurn::First;
     }
     if !settle(rt, second, other) || !settled {
@@ -362,7 +341,7 @@ fn is_open(j: &[u8]) -> bool {
 // Puts the store and its journal in the places of the two files. A power cut between the two leaves one new and one old, so the order counts. While a
 // batch is open the journal goes first: its places hold what stood at the opening, and taken back over the older store they lead there too. Once
 // none is open the store goes first: a batch that was taken back is then taken back once more, and that changes nothing.
-pub fn replace<R: Files + Eprint + AllocGlobal>(
+pub fn replace<R: Files + Eprint>(
     rt: &R,
     folders: &Folders<R::File>,
     store_after: &str,

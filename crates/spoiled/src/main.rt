@@ -2,6 +2,8 @@
 // must get. Shows a line for each case whose verdict is another, and at the end how many were sound, how many not, and how many were wrong.
 #![tactic(auto)]
 
+ghost use Rattle.std.specs.Prelude.{◌≡◌, ◌≤◌, length};
+
 use areas::area;
 use sound::soundness;
 use std::io;
@@ -138,8 +140,27 @@ fn run<W: Write>(out: &mut W, list: &[u8]) -> io::Result<()> {
     say(out, "wrong verdicts", t.wrong)
 }
 
+// Reads a file to its end, as far as there is room and it can be read, and answers how many bytes that are.
+fn read_full<F: Read>(from: &mut F, s: &mut [u8]) -> usize
+    ensures count { result ≤ length s.new }
+    ensures length { length s.new ≡ length s.old }
+{
+    let mut count = 0;
+    while count < s.len() {
+        match from.read(&mut s[count..]) {
+            Ok(0) | Err(_) => {
+                return count;
+            }
+            Ok(n) => {
+                count += n;
+            }
+        }
+    }
+    count
+}
+
 fn main(rt: HostRuntime) {
-    let mut list = Vec::new(rt.alloc());
-    let _read = rt.stdin().take(65536).read_to_end(&mut list);
-    let _told = run(&mut rt.stdout(), &list);
+    let mut list = [0u8; 65536];
+    let n = read_full(&mut rt.stdin(), &mut list);
+    let _told = run(&mut rt.stdout(), &list[0..n]);
 }
