@@ -208,10 +208,6 @@ module _ (pre : List ℕ) (cat k : ℕ) (mid : List ℕ) (from w places : ℕ) (
   unfolding with_record
   opened-recorded post i r h = rw h.width (opened-written post i r h)
 
-pub read_count : (s : List ℕ) (cat k n : ℕ) → n ≡ num 0 (take (cat + k - cat) (drop cat s)) → count_at cat k s ≡ n
-unfolding count_at
-read_count s cat k n e = sym (e ∙ rw add-sub_cancel_left)
-
 -- as the code has it: the count was read as n, records moved in or out, and the new count written
 module _ (s₁ y : List ℕ) (cat k m : ℕ) (long : cat + k ≤ length s₁)
     (put : y ≡ be (length (take (cat + k - cat) (drop cat s₁))) m []) where
@@ -220,18 +216,16 @@ module _ (s₁ y : List ℕ) (cat k m : ℕ) (long : cat + k ≤ length s₁)
       let l : length (take (cat + k - cat) (drop cat s₁)) ≡ k = simp (length-take, length-drop) (omega arith) in
       mid_back cat (cat + k) s₁ y (omega arith) ∙ ap (λ (z : List ℕ). with_part cat (cat + k) z s₁) (put ∙ rw l)
 
-pub grown-back : (s s₁ y r : List ℕ) (cat k from places at n : ℕ) → n ≡ num 0 (take (cat + k - cat) (drop cat s)) → cat + k ≤ length s₁
+pub grown-back : (s s₁ y r : List ℕ) (cat k from places at n : ℕ) → n ≡ count_at cat k s → cat + k ≤ length s₁
     → y ≡ be (length (take (cat + k - cat) (drop cat s₁))) (n + 1) [] → s₁ ≡ inserted_at from places n at r s
     → put_mid cat (cat + k - cat) s₁ y ≡ grown cat k from places at r s
 unfolding grown
 grown-back s s₁ y r cat k from places at n e l f g =
-    let c = read_count s cat k n e in
-    count-put s₁ y cat k (n + 1) l f ∙ rw (g, c)
+    count-put s₁ y cat k (n + 1) l f ∙ rw (g, e)
 
-pub shrunk-back : (s s₁ y : List ℕ) (cat k from places w at run n : ℕ) → n ≡ num 0 (take (cat + k - cat) (drop cat s)) → cat + k ≤ length s₁
+pub shrunk-back : (s s₁ y : List ℕ) (cat k from places w at run n : ℕ) → n ≡ count_at cat k s → cat + k ≤ length s₁
     → y ≡ be (length (take (cat + k - cat) (drop cat s₁))) (n - run) [] → s₁ ≡ removed_at from places w n at run s
     → put_mid cat (cat + k - cat) s₁ y ≡ shrunk cat k from places w at run s
 unfolding shrunk
 shrunk-back s s₁ y cat k from places w at run n e l f g =
-    let c = read_count s cat k n e in
-    count-put s₁ y cat k (n - run) l f ∙ rw (g, c)
+    count-put s₁ y cat k (n - run) l f ∙ rw (g, e)

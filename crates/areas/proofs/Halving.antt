@@ -67,12 +67,13 @@ module _ {A B : Type 0} (f : A → B) (p : B → Bool) where
   falls-map [] h = tt
   falls-map (x ∷ xs) h = (λ e. count_map xs ∙ h.0 e, falls-map xs h.1)
 
--- ---- a turn of the search brings lo and hi nearer
-pub up-less : (lo hi : ℕ) → lo < hi → hi - (lo + (hi - lo) / 2 + 1) < hi - lo
-up-less lo hi l = omega arith
+-- ---- the record in the middle of those from lo to hi
+module _ (s : List ℕ) (count w lo hi : ℕ) (l : lo < hi) (h : hi ≤ count) (k : count * w ≤ length s) where
+  pub middle-fits : (lo + (hi - lo) / 2) * w + w ≤ length s
+  middle-fits = place-fits (lo + (hi - lo) / 2) count w (length s) (omega arith) k
 
-pub down-less : (lo hi : ℕ) → lo < hi → lo + (hi - lo) / 2 - lo < hi - lo
-down-less lo hi l = omega arith
+  pub middle-long : length (take ((lo + (hi - lo) / 2) * w + w - (lo + (hi - lo) / 2) * w) (drop ((lo + (hi - lo) / 2) * w) s)) ≡ w
+  middle-long = simp (length-take, length-drop) (omega (arith, middle-fits))
 
 -- ---- the search: lo and hi bracket the number of records before the probe, as `cmp` tells
 
@@ -97,13 +98,6 @@ module _ (cmp : List ℕ → Ordering) (s : List ℕ) (count w : ℕ) where
     module _ (l : lo < hi) (ok : SearchIn (λ x. is_lt (cmp x)) s count w) where
       inside : lo + (hi - lo) / 2 < count
       inside = omega arith
-
-      pub middle-fits : (lo + (hi - lo) / 2) * w + w ≤ length s
-      middle-fits = place-fits (lo + (hi - lo) / 2) count w (length s) inside ok.inside
-
-      -- what the width has room for, the part in the middle has
-      pub middle-holds : (n : ℕ) → n ≤ w → n ≤ length (take ((lo + (hi - lo) / 2) * w + w - (lo + (hi - lo) / 2) * w) (drop ((lo + (hi - lo) / 2) * w) s))
-      middle-holds n h = simp (length-take, length-drop) (omega (arith, middle-fits))
 
       module _ (o : Ordering)
           (e : o ≡ cmp (take ((lo + (hi - lo) / 2) * w + w - (lo + (hi - lo) / 2) * w) (drop ((lo + (hi - lo) / 2) * w) s))) where

@@ -1,7 +1,11 @@
 -- The three orders that areas are searched by, on the bytes of a record: a name; a name and a value; a name, a number and two values.
 -- Assumes nothing.
 use Prim.Native.Nat.{ℕ, ◌+◌, ◌*◌, ◌≤◌, compare, Ordering}
-use Rattle.std.specs.Prelude.{Bool, List, length, get_or, drop}
+use denote.Ref.{Bor}
+use denote.Param.Members.{Shared}
+use Rattle.std.specs.declared.cmp.Ordering.{Ordering as Compared}
+use Rattle.values.specs.Meaning.{ordering}
+use Rattle.std.specs.Prelude.{◌≡◌, Bool, List, length, get_or, drop}
 use Rattle.values.specs.Basic.{and_then, cmp_bytes}
 use Rattle.values.specs.Value.{Value, cmp_value}
 use Rattle.values.specs.Cell.{name_width, read_name, read_value}
@@ -29,3 +33,11 @@ cmp_entered w r n c v k = and_then (cmp_named r n) (cmp_content w r c v k)
 pub record SearchIn (p : List ℕ → Bool) (s : List ℕ) (count w : ℕ) : Type 0 where
   pub inside : count * w ≤ length s
   pub falls : Falls p (records w count s)
+
+-- f can be called at each record of w bytes, and answers how cmp compares it
+module _ {F : Type 0} (g : Shared F (Bor (List ℕ) × Unit {0}) Compared) (w : ℕ) (f : F) where
+  abbrev pub ComparesEach : Type 0
+  ComparesEach = (r : Bor (List ℕ)) → length r.now ≡ w → g.pre f (r, tt)
+
+  abbrev pub ComparesBy : (List ℕ → Ordering) → Type 0
+  ComparesBy cmp = (r : Bor (List ℕ)) (o : Compared) → length r.now ≡ w → g.post f (r, tt) o → ordering o ≡ cmp r.now

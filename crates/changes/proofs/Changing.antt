@@ -1,13 +1,10 @@
 -- What the changes of a row share: what they read first of the table's record, and the place that they write the row's record at. Assumes nothing.
+use Rattle.values.specs.declared.value.Cell.{Cell}
 use mathlib.Core.Path.{◌≡◌, ◌∙◌}
-use mathlib.Core.Logic.{◌⊎◌, ⊎_elim}
 use Prim.Native.Nat.{ℕ, ◌+◌, ◌-◌, ◌*◌, ◌^◌, ◌≤◌, ◌<◌}
 use native.Mathlib.Omega.{arith}
 use mathlib.Core.List.{List, []}
 use lib.ListN.{length, take, drop, get_or}
-use mir.Syntax.{w8, w64}
-use mir.Val.{Fits}
-use borrow.Rule.Slice.PartMut.{put_mid, same_len_mid}
 use Rattle.values.specs.Cell.{read_name}
 use Rattle.values.specs.declared.value.Text.{Text}
 use Rattle.values.specs.declared.value.Value as D
@@ -18,7 +15,6 @@ use Rattle.rules.specs.State as S
 use Rattle.rules.specs.State.{Table}
 use Rattle.rules.specs.Layout.{lists, parse}
 use Rattle.rules.proofs.Widths.{store-in-four}
-use Rattle.laid.specs.declared.row.Row.{Row}
 use Rattle.laid.specs.Row.{ProperRow, table_in}
 use Rattle.laid.specs.Store.{Coded, Inside, LaidStore}
 use Rattle.laid.proofs.Stores.{held-inside}
@@ -26,36 +22,33 @@ use Rattle.laid.proofs.RowFacts.{RowFacts, start-table, start-least, start-name,
 
 -- ---- the table's record at the start
 
-pub record TableOf (p : Profile) (R : ℕ) (s : List ℕ) (t : ℕ) : Type 0 where
-  pub held : LaidStore p R s
-  pub known : t < length (parse p R s).tables
-
 -- what is read of it: the name and the key column
 pub record Begun (p : Profile) (R : ℕ) (s : List ℕ) (t : ℕ) (name : Text) (column : ℕ) : Type 0 where
-  pub table : TableOf p R s t
+  pub held : LaidStore p R s
+  pub known : t < length (parse p R s).tables
   pub named : text_bytes name ≡ (table_in p R s t).name
   pub packed : Packed name
   pub key : column ≡ (table_in p R s t).key
 
-module _ {p : Profile} {R : ℕ} {s : List ℕ} {t : ℕ} (x : TableOf p R s t) where
+module _ {p : Profile} {R : ℕ} {s : List ℕ} {t : ℕ} (b : LaidStore p R s) (known : t < length (parse p R s).tables) where
   pub record-asked : Inside p R s × (t < length (lists p R s).schemas)
-  record-asked = (held-inside p R s x.held, start-table p R s x.held t x.known)
+  record-asked = (held-inside p R s b, start-table p R s b t known)
 
   module _ {rec : List ℕ} (er : rec ≡ get_or (lists p R s).schemas t []) where
     pub record-least : 27 ≤ length rec
-    record-least = start-least p R s x.held t x.known rec er
+    record-least = start-least p R s b t known rec er
 
     pub record-count : {count : ℕ} → count ≡ get_or rec 26 0 → count ≡ length (table_in p R s t).columns
-    record-count e = e ∙ start-count p R s x.held t x.known rec er
+    record-count e = e ∙ start-count p R s b t known rec er
 
-    pub begun : {name : Text} → (text_bytes name ≡ read_name rec) × Packed name → {again : List ℕ} → again ≡ get_or (lists p R s).schemas t []
-        → {column : ℕ} → column ≡ get_or again 25 0 → Begun p R s t name column
-    begun n {again} ea k =
+    pub begun : {name : Text} → (text_bytes name ≡ read_name rec) × Packed name → {column : ℕ} → column ≡ get_or rec 25 0 → Begun p R s t name column
+    begun n k =
         record {
-          table = x;
-          named = n.0 ∙ start-name p R s x.held t x.known rec er;
+          held = b;
+          known = known;
+          named = n.0 ∙ start-name p R s b t known rec er;
           packed = n.1;
-          key = k ∙ start-key p R s x.held t x.known again ea;
+          key = k ∙ start-key p R s b t known rec er;
         }
 
 -- ---- the place of a row's record, in a buffer as long as the store
@@ -64,13 +57,6 @@ pub record Place (p : Profile) (s₀ s : List ℕ) (from w i : ℕ) : Type 0 whe
   pub small : from + i * w + w < 2 ^ 32
   pub inside : from + i * w + w ≤ length s
   pub part : length (take (from + i * w + w - (from + i * w)) (drop (from + i * w) s)) ≡ row_width p
-  pub kept : length s ≡ length s₀
-
--- what the part's writing gives back is as long
-pub place-back : {p : Profile} {s₀ s : List ℕ} {from w i : ℕ} → Place p s₀ s from w i
-    → (y : List ℕ) → length y ≡ length (take (from + i * w + w - (from + i * w)) (drop (from + i * w) s))
-    → length (put_mid (from + i * w) (from + i * w + w - (from + i * w)) s y) ≡ length s₀
-place-back {s = s} {from} {w} {i} q y e = same_len_mid (from + i * w) (from + i * w + w - (from + i * w)) s y e ∙ q.kept
 
 pub place_of : {p : Profile} {R : ℕ} {s₀ s : List ℕ} {from w i : ℕ} → LaidStore p R s₀ → from + i * w + w ≤ length s
     → length (take (from + i * w + w - (from + i * w)) (drop (from + i * w) s)) ≡ row_width p → length s ≡ length s₀ → Place p s₀ s from w i
@@ -79,27 +65,10 @@ place_of {p} {R} {s₀} b h part kept =
       small = omega (arith, (held-inside p R s₀ b).long, store-in-four p b.coded.known R b.places);
       inside = h;
       part = part;
-      kept = kept;
     }
 
 -- what the row's writing asks
-pub write-asked : {p : Profile} {R : ℕ} {T : Table} {r : S.Row} {name : Text} {row : Row} {key : D.Value} → RowFacts p R T r name row.count key → ProperRow row
+pub write-asked : {p : Profile} {R : ℕ} {T : Table} {r : S.Row} {name : Text} {row : List Cell} {key : D.Value} → RowFacts p R T r name (length row) key → ProperRow row
     → {s₀ s : List ℕ} {from w i : ℕ} → Place p s₀ s from w i
-    → Coded p × (length (take (from + i * w + w - (from + i * w)) (drop (from + i * w) s)) ≡ row_width p) × Packed name × ProperRow row × (row.count ≤ p.columns)
+    → Coded p × (length (take (from + i * w + w - (from + i * w)) (drop (from + i * w) s)) ≡ row_width p) × Packed name × ProperRow row × (length row ≤ p.columns)
 write-asked f pr q = (f.coded, q.part, f.packed, pr, omega (arith, f.full, f.good-row.few))
-
--- ---- a turn of a loop
-
--- its small facts, as laws, so that omega does not read the whole run at each
-pub falls : {j n : ℕ} → j < n → n - (j + 1) < n - j
-falls h = omega arith
-
-pub byte_fits : {j : ℕ} → j < 256 → Fits w8 j
-byte_fits h = omega arith
-
-pub next_fits : {j : ℕ} → j < 256 → Fits w64 (j + 1)
-next_fits h = omega arith
-
--- by the arm taken, which is told before the answers for each
-pub by_arm : {A B C : Type 0} → A ⊎ B → (A → C) → (B → C) → C
-by_arm x f g = ⊎_elim f g x

@@ -1,4 +1,5 @@
 -- A row put into a store: its record at its place, then its entries one by one, and what stands is the image of the state with it. Assumes nothing.
+use Rattle.values.specs.declared.value.Cell.{Cell}
 use mathlib.Core.Path.{◌≡◌, refl, sym, ap, ◌∙◌, subst}
 use mathlib.Core.Bool.{Bool, true, false, true≢false}
 use mathlib.Core.Option
@@ -10,7 +11,7 @@ use native.Mathlib.Omega.{arith}
 use mathlib.Core.List.{List, [], ◌∷◌, ◌++◌, map, append_assoc}
 use lib.Dec.{compare_is_eq}
 use lib.ListN.{length, take, drop, get_or, replicate, length-append, length-map, length-replicate}
-use lib.Seq.{length-take-le, drop_at, get_or_at, get_or-take}
+use lib.Seq.{length-take-le, drop_at, get_or_at}
 use borrow.Rule.Slice.PartMut.{put_mid}
 use Rattle.values.specs.Basic.{is_lt, keep_if, insert_by, find, is_some, nth, or_default, cmp_bytes}
 use Rattle.values.specs.Bytes.{pad}
@@ -47,7 +48,6 @@ use Rattle.rules.proofs.Room.{index-within, few-columns}
 use Rattle.rules.proofs.Tests.{name-is}
 use Rattle.rules.proofs.Trip.{GoodRow, GoodEntry, cells_wide, row-long, name-short}
 use Rattle.rules.proofs.Valid.{LaidState, laid-is}
-use Rattle.laid.specs.declared.row.Row.{Row}
 use Rattle.laid.specs.declared.catalog.Column.{Column}
 use Rattle.laid.specs.Column.{column_of, ColumnRead}
 use Rattle.laid.specs.Catalog.{TableBytes}
@@ -58,7 +58,7 @@ use Rattle.laid.proofs.Finding.{nth-map, nth-get_or, all-nth}
 use Rattle.laid.proofs.Keyed.{row-test}
 use Rattle.laid.proofs.Stores.{held-state, held-inside}
 use Rattle.laid.proofs.Midway.{Midway, mid-added, added-entries, mid-inside, mid-entered, mid-table, mid-table-bytes, mid-column}
-use Rattle.laid.proofs.RowFacts.{RowFacts, row-facts, column-few, column-byte, good-entry, entry-is, own-columns, own-full, own-key-below, own_key, own-good, held-midway, held-entries, table-there, table-held}
+use Rattle.laid.proofs.RowFacts.{RowFacts, row-facts, column-few, good-entry, entry-is, own-columns, own-full, own-key-below, own_key, own-good, held-midway, held-entries, table-there, table-held}
 use Rattle.changes.proofs.Changing.{Begun, Place, place_of}
 use Rattle.changes.proofs.RowRemoved.{entries-left, entries_none}
 
@@ -164,24 +164,18 @@ module _ (p : Profile) (k : Coded p) (R : ℕ) (most : R ≤ places_most) (st : 
 -- ---- a row in flight
 
 -- the value of its cell j
-abbrev pub flight : Row → ℕ → D.Value
-flight row j = (get_or row.cells j (record { value = Null })).value
+abbrev pub flight : List Cell → ℕ → D.Value
+flight row j = (get_or row j (record { value = Null })).value
 
-module _ (row : Row) (pr : ProperRow row) where
+module _ (row : List Cell) (pr : ProperRow row) where
   -- a cell of the row in flight
-  pub flight-cell : (j : ℕ) → j < row.count → held (get_or row.cells j (record { value = Null })) ≡ cell_at (cells_of row) j
+  pub flight-cell : (j : ℕ) → j < length row → held (get_or row j (record { value = Null })) ≡ cell_at (cells_of row) j
   unfolding cells_of
   flight-cell j h =
-      let l : length (take row.count row.cells) ≡ row.count = length-take-le row.count row.cells pr.few in
-      ap held (sym (get_or-take row.count row.cells j (record { value = Null }) h))
-      ∙ sym (ap (λ (o : Option Value). or_default o null)
-      (nth-map held (take row.count row.cells) j ∙ ap (Option.map held) (nth-get_or (take row.count row.cells) j (record { value = Null }) (omega (arith, l)))))
+      sym (ap (λ (o : Option Value). or_default o null) (nth-map held row j ∙ ap (Option.map held) (nth-get_or row j (record { value = Null }) h)))
 
-  pub flight-proper : (j : ℕ) → j < row.count → ProperCell (get_or row.cells j (record { value = Null }))
-  flight-proper j h =
-      let l : length (take row.count row.cells) ≡ row.count = length-take-le row.count row.cells pr.few in
-      rw (← get_or-take row.count row.cells j (record { value = Null }) h)
-      (all-nth ProperCell (take row.count row.cells) j (record { value = Null }) pr.proper (omega (arith, l)))
+  pub flight-proper : (j : ℕ) → j < length row → ProperCell (get_or row j (record { value = Null }))
+  flight-proper j h = all-nth ProperCell row j (record { value = Null }) pr.proper h
 
 -- ---- a row that can be added
 
@@ -189,7 +183,7 @@ keyed-as : (x r : S.Row) → cmp_row x (keyed r.table r.key) ≡ cmp_row x r
 unfolding cmp_row
 keyed-as x r = refl
 
-module _ (p : Profile) (R : ℕ) (s₀ : List ℕ) (b : LaidStore p R s₀) (t : ℕ) (row : Row) (pr : ProperRow row) (a : Addable p R s₀ t (cells_of row)) where
+module _ (p : Profile) (R : ℕ) (s₀ : List ℕ) (b : LaidStore p R s₀) (t : ℕ) (row : List Cell) (pr : ProperRow row) (a : Addable p R s₀ t (cells_of row)) where
   abbrev T : Table
   T = table_in p R s₀ t
 
@@ -218,21 +212,20 @@ module _ (p : Profile) (R : ℕ) (s₀ : List ℕ) (b : LaidStore p R s₀) (t :
   new-there : In r (with_row r rs)
   new-there = in-insert-new cmp_row r rs
 
-  pub added_full : row.count ≡ length T.columns
+  pub added_full : length row ≡ length T.columns
   unfolding cells_of
   added_full =
-      sym (length-map (take row.count row.cells) held ∙ length-take-le row.count row.cells pr.few)
-      ∙ own-full p R after after-laid T there r new-there refl
+      sym (length-map row held) ∙ own-full p R after after-laid T there r new-there refl
 
-  pub added-key-below : T.key < row.count
+  pub added-key-below : T.key < length row
   added-key-below = omega (arith, added_full, own-key-below p R after after-laid T there r new-there refl)
 
   key-is-own : cell_at (cells_of row) T.key ≡ r.key
   key-is-own = own_key p R after after-laid T there r new-there refl kn
 
-  pub added-facts : (name : Text) → text_bytes name ≡ T.name → Packed name → (key : D.Value) → meaning key ≡ cell_at (cells_of row) T.key → Proper key → RowFacts p R T r name row.count key
+  pub added-facts : (name : Text) → text_bytes name ≡ T.name → Packed name → (key : D.Value) → meaning key ≡ cell_at (cells_of row) T.key → Proper key → RowFacts p R T r name (length row) key
   added-facts name en hn key ek hk =
-      row-facts p b.coded R b.places after after-laid T there r new-there refl name en hn row.count added_full key ek hk
+      row-facts p b.coded R b.places after after-laid T there r new-there refl name en hn (length row) added_full key ek hk
 
   -- the table's key column
   pub added-column : (n : List ℕ) (column : ℕ) → n ≡ T.name → column ≡ T.key → KeyColumn p R s₀ n column
@@ -293,7 +286,7 @@ module _ (p : Profile) (R : ℕ) (s₀ : List ℕ) (b : LaidStore p R s₀) (t :
 
   -- ---- the record at its place
 
-  module _ (j : ℕ) (s : List ℕ) (x : Adds p R (parse p R s₀) final r T.columns j s) (h : row.count ≤ j) (from w i : ℕ) (ef : from ≡ rows_at p) (ew : w ≡ row_width p) (ei : i ≡ rank cmp_row r rs) where
+  module _ (j : ℕ) (s : List ℕ) (x : Adds p R (parse p R s₀) final r T.columns j s) (h : length row ≤ j) (from w i : ℕ) (ef : from ≡ rows_at p) (ew : w ≡ row_width p) (ei : i ≡ rank cmp_row r rs) where
     abbrev x₀ : Lists
     x₀ = records_of p (parse p R s₀) (entries_in p R s)
 
@@ -333,21 +326,21 @@ module _ (p : Profile) (R : ℕ) (s₀ : List ℕ) (b : LaidStore p R s₀) (t :
       pub added-length : length s₁ ≡ length s₀
       added-length = omega (arith, laid-length p R s₁ opened opened-laid, (held-inside p R s₀ b).long)
 
-      record_is : (n : List ℕ) (y : List ℕ) → n ≡ T.name → y ≡ row_bytes n (cells_of row) ++ drop (25 + row.count * 26) (take (from + i * w + w - (from + i * w)) (drop (from + i * w) s₁)) → y ≡ row_record p r
+      record_is : (n : List ℕ) (y : List ℕ) → n ≡ T.name → y ≡ row_bytes n (cells_of row) ++ drop (25 + length row * 26) (take (from + i * w + w - (from + i * w)) (drop (from + i * w) s₁)) → y ≡ row_record p r
       record_is n y en ey =
           let g = own-good p R after after-laid T there r new-there refl in
-          let c : length (cells_of row) ≡ row.count = own-full p R after after-laid T there r new-there refl ∙ sym added_full in
-          let z : ◌≡◌ {A = List ℕ} (drop (25 + row.count * 26) (replicate w 0)) (replicate (p.columns * p.cell - length (cells_of row) * 26) 0) =
-          drop-zeros (25 + row.count * 26) w
-          ∙ ap {B = List ℕ} (λ (m : ℕ). replicate (m - (25 + row.count * 26)) 0) (ew ∙ row-width p)
-          ∙ ap {B = List ℕ} (λ (m : ℕ). replicate m 0) (sub-both (p.columns * p.cell) (row.count * 26))
+          let c : length (cells_of row) ≡ length row = own-full p R after after-laid T there r new-there refl ∙ sym added_full in
+          let z : ◌≡◌ {A = List ℕ} (drop (25 + length row * 26) (replicate w 0)) (replicate (p.columns * p.cell - length (cells_of row) * 26) 0) =
+          drop-zeros (25 + length row * 26) w
+          ∙ ap {B = List ℕ} (λ (m : ℕ). replicate (m - (25 + length row * 26)) 0) (ew ∙ row-width p)
+          ∙ ap {B = List ℕ} (λ (m : ℕ). replicate m 0) (sub-both (p.columns * p.cell) (length row * 26))
           ∙ ap {B = List ℕ} (λ (m : ℕ). replicate (p.columns * p.cell - m * 26) 0) (sym c)
           in
-          ey ∙ ap (λ (l : List ℕ). row_bytes n (cells_of row) ++ l) (ap (drop (25 + row.count * 26)) part-is ∙ z)
+          ey ∙ ap (λ (l : List ℕ). row_bytes n (cells_of row) ++ l) (ap (drop (25 + length row * 26)) part-is ∙ z)
           ∙ ap (λ (m : List ℕ). row_bytes m (cells_of row) ++ replicate (p.columns * p.cell - length (cells_of row) * 26) 0) en
           ∙ sym (record-parts p b.coded r g)
 
-      pub added-done : (n : List ℕ) (y : List ℕ) → n ≡ T.name → y ≡ row_bytes n (cells_of row) ++ drop (25 + row.count * 26) (take (from + i * w + w - (from + i * w)) (drop (from + i * w) s₁))
+      pub added-done : (n : List ℕ) (y : List ℕ) → n ≡ T.name → y ≡ row_bytes n (cells_of row) ++ drop (25 + length row * 26) (take (from + i * w + w - (from + i * w)) (drop (from + i * w) s₁))
           → put_mid (from + i * w) (from + i * w + w - (from + i * w)) s₁ y ≡ image p R (apply (added r) (parse p R s₀))
       unfolding image apply
       added-done n y en ey =
@@ -363,48 +356,43 @@ module _ (p : Profile) (R : ℕ) (s₀ : List ℕ) (b : LaidStore p R s₀) (t :
 
 -- ---- a turn of the loop, with what the code has at hand
 
-abbrev new_row : Profile → ℕ → List ℕ → ℕ → Row → S.Row
+abbrev new_row : Profile → ℕ → List ℕ → ℕ → List Cell → S.Row
 new_row p R s t row = row_of (table_in p R s t) (cells_of row)
 
-abbrev new_index : Profile → ℕ → List ℕ → ℕ → Row → List Entry
+abbrev new_index : Profile → ℕ → List ℕ → ℕ → List Cell → List Entry
 new_index p R s t row = index_of (parse p R s).tables (with_row (new_row p R s t row) (parse p R s).rows)
 
-pub record AddTurn (p : Profile) (R : ℕ) (s₀ : List ℕ) (t : ℕ) (row : Row) (name : Text) (key : D.Value) (i j : ℕ) (s : List ℕ) : Type 0 where
+pub record AddTurn (p : Profile) (R : ℕ) (s₀ : List ℕ) (t : ℕ) (row : List Cell) (name : Text) (key : D.Value) (i j : ℕ) (s : List ℕ) : Type 0 where
   pub held : LaidStore p R s₀
   pub proper : ProperRow row
   pub addable : Addable p R s₀ t (cells_of row)
-  pub few : j ≤ row.count
-  pub facts : RowFacts p R (table_in p R s₀ t) (new_row p R s₀ t row) name row.count key
+  pub facts : RowFacts p R (table_in p R s₀ t) (new_row p R s₀ t row) name (length row) key
   pub placed : i ≡ rank cmp_row (new_row p R s₀ t row) (parse p R s₀).rows
   pub adds : Adds p R (parse p R s₀) (new_index p R s₀ t row) (new_row p R s₀ t row) (table_in p R s₀ t).columns j s
 
 -- the start, with the name and the key column read
-module _ {p : Profile} {R : ℕ} {s₀ : List ℕ} {t : ℕ} {name : Text} {column : ℕ} (x : Begun p R s₀ t name column) {row : Row} (pr : ProperRow row) (a : Addable p R s₀ t (cells_of row)) where
-  add-below : column < row.count
-  add-below = omega (arith, x.key, added-key-below p R s₀ x.table.held t row pr a)
-
-  pub add_eight : column < 8
-  add_eight = omega (arith, add-below, pr.most)
+module _ {p : Profile} {R : ℕ} {s₀ : List ℕ} {t : ℕ} {name : Text} {column : ℕ} (x : Begun p R s₀ t name column) {row : List Cell} (pr : ProperRow row) (a : Addable p R s₀ t (cells_of row)) where
+  pub add-below : column < length row
+  add-below = omega (arith, x.key, added-key-below p R s₀ x.held t row pr a)
 
   pub add-ranked : LaidStore p R s₀ × KeyColumn p R s₀ (text_bytes name) column × Packed name × Proper (flight row column)
-  add-ranked = (x.table.held, added-column p R s₀ x.table.held t row pr a (text_bytes name) column x.named x.key, x.packed, flight-proper row pr column add-below)
+  add-ranked = (x.held, added-column p R s₀ x.held t row pr a (text_bytes name) column x.named x.key, x.packed, flight-proper row pr column add-below)
 
   pub add_start : {i : ℕ} → i ≡ count_of (λ y. is_lt (cmp_row y (keyed (text_bytes name) (meaning (flight row column))))) (parse p R s₀).rows → AddTurn p R s₀ t row name (flight row column) i 0 s₀
   add_start {i} ei =
       let ek : meaning (flight row column) ≡ cell_at (cells_of row) (table_in p R s₀ t).key = flight-cell row pr column add-below ∙ ap (cell_at (cells_of row)) x.key in
       record {
-        held = x.table.held;
+        held = x.held;
         proper = pr;
         addable = a;
-        few = omega arith;
-        facts = added-facts p R s₀ x.table.held t row pr a name x.named x.packed (flight row column) ek (flight-proper row pr column add-below);
-        placed = added-rank p R s₀ x.table.held t row pr a name (flight row column) x.named ek i ei;
-        adds = added-start p R s₀ x.table.held t row pr a;
+        facts = added-facts p R s₀ x.held t row pr a name x.named x.packed (flight row column) ek (flight-proper row pr column add-below);
+        placed = added-rank p R s₀ x.held t row pr a name (flight row column) x.named ek i ei;
+        adds = added-start p R s₀ x.held t row pr a;
       }
 
-module _ {p : Profile} {R : ℕ} {s₀ : List ℕ} {t : ℕ} {row : Row} {name : Text} {key : D.Value} {i j : ℕ} {s : List ℕ} (x : AddTurn p R s₀ t row name key i j s) where
+module _ {p : Profile} {R : ℕ} {s₀ : List ℕ} {t : ℕ} {row : List Cell} {name : Text} {key : D.Value} {i j : ℕ} {s : List ℕ} (x : AddTurn p R s₀ t row name key i j s) where
   -- the record, when no column is left
-  module _ (h : row.count ≤ j) {from w : ℕ} (ef : from ≡ rows_at p) (ew : w ≡ row_width p) where
+  module _ (h : length row ≤ j) {from w : ℕ} (ef : from ≡ rows_at p) (ew : w ≡ row_width p) where
     pub add-grows : Grows s rows_count 2 from R i w
     add-grows = added-grows p R s₀ x.held t row x.proper x.addable j s x.adds h from w i ef ew x.placed
 
@@ -415,11 +403,11 @@ module _ {p : Profile} {R : ℕ} {s₀ : List ℕ} {t : ℕ} {row : Row} {name :
           (added-part p R s₀ x.held t row x.proper x.addable j s x.adds h from w i ef ew x.placed s₁ e₁)
           (added-length p R s₀ x.held t row x.proper x.addable j s x.adds h from w i ef ew x.placed s₁ e₁)
 
-      pub add_done : {y : List ℕ} → y ≡ row_bytes (text_bytes name) (cells_of row) ++ drop (25 + row.count * 26) (take (from + i * w + w - (from + i * w)) (drop (from + i * w) s₁))
+      pub add_done : {y : List ℕ} → y ≡ row_bytes (text_bytes name) (cells_of row) ++ drop (25 + length row * 26) (take (from + i * w + w - (from + i * w)) (drop (from + i * w) s₁))
           → put_mid (from + i * w) (from + i * w + w - (from + i * w)) s₁ y ≡ image p R (apply (added (new_row p R s₀ t row)) (parse p R s₀))
       add_done {y} ey = added-done p R s₀ x.held t row x.proper x.addable j s x.adds h from w i ef ew x.placed s₁ e₁ (text_bytes name) y x.facts.named ey
 
-  module _ (h : j < row.count) where
+  module _ (h : j < length row) where
     turn-mid : Midway p R (parse p R s₀) s
     turn-mid = x.adds.mid
 
@@ -432,17 +420,11 @@ module _ {p : Profile} {R : ℕ} {s₀ : List ℕ} {t : ℕ} {row : Row} {name :
     pub add-asked : Inside p R s × (t < length (lists p R s).schemas)
     add-asked = (mid-inside p x.facts.coded R x.facts.places (parse p R s₀) s turn-mid, mid-table p x.facts.coded R x.facts.places (parse p R s₀) s turn-mid t (table_in p R s₀ t) at)
 
-    pub add-eighth : j < 8
-    add-eighth = omega (arith, x.proper.most)
-
-    pub add-byte : j < 256
-    add-byte = column-byte p R (table_in p R s₀ t) (new_row p R s₀ t row) name row.count key x.facts j h
-
     module _ {rec : List ℕ} (er : rec ≡ get_or (lists p R s).schemas t []) where
       pub add_read : TableBytes p rec × (j < p.columns)
       add_read = (
         mid-table-bytes p x.facts.coded R x.facts.places (parse p R s₀) s turn-mid t (table_in p R s₀ t) at rec er x.facts.good-table,
-        column-few p R (table_in p R s₀ t) (new_row p R s₀ t row) name row.count key x.facts j h,
+        column-few p R (table_in p R s₀ t) (new_row p R s₀ t row) name (length row) key x.facts j h,
       )
 
       module _ {c : Column} (rc : ColumnRead p rec j c) where
@@ -455,7 +437,6 @@ module _ {p : Profile} {R : ℕ} {s₀ : List ℕ} {t : ℕ} {row : Row} {name :
               held = x.held;
               proper = x.proper;
               addable = x.addable;
-              few = omega arith;
               facts = x.facts;
               placed = x.placed;
               adds = subst (Adds p R (parse p R s₀) (new_index p R s₀ t row) (new_row p R s₀ t row) (table_in p R s₀ t).columns (j + 1)) (sym e₂) y;
@@ -467,7 +448,7 @@ module _ {p : Profile} {R : ℕ} {s₀ : List ℕ} {t : ℕ} {row : Row} {name :
 
         module _ (e : c.index ≡ true) where
           come-is : entry_of name j (flight row j) key ≡ entry_at (new_row p R s₀ t row) j
-          come-is = entry-is p R (table_in p R s₀ t) (new_row p R s₀ t row) name row.count key x.facts j h (flight row j) (flight-cell row x.proper j h)
+          come-is = entry-is p R (table_in p R s₀ t) (new_row p R s₀ t row) name (length row) key x.facts j h (flight row j) (flight-cell row x.proper j h)
 
           pub add-requires : Entered p R s × ProperEntry name (flight row j) key × (length (entries_in p R s) < p.entries * R)
           add-requires = (
@@ -480,6 +461,6 @@ module _ {p : Profile} {R : ℕ} {s₀ : List ℕ} {t : ℕ} {row : Row} {name :
           add-next {s₁} l e₂ =
               add_turn
               (adds-next p x.facts.coded R x.facts.places (parse p R s₀) (new_index p R s₀ t row) fits (new_row p R s₀ t row) (table_in p R s₀ t).columns j s x.adds (column_of c) column-is e
-              (good-entry p R (table_in p R s₀ t) (new_row p R s₀ t row) name row.count key x.facts j h) s₁
+              (good-entry p R (table_in p R s₀ t) (new_row p R s₀ t row) name (length row) key x.facts j h) s₁
               (subst (λ (y : Entry). Laid p R s₁ (entry_added p R y s)) come-is l))
               e₂

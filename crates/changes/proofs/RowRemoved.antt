@@ -42,8 +42,8 @@ use Rattle.laid.specs.Row.{table_in, row_in, RowOf}
 use Rattle.laid.specs.Store.{Coded, Inside, LaidStore}
 use Rattle.laid.specs.Entered.{entries_in, Entered, entry_of, ProperEntry, entry_in, entry_removed}
 use Rattle.laid.proofs.Keyed.{row_at, row-in}
-use Rattle.laid.proofs.Stores.{held-state, held-inside}
-use Rattle.laid.proofs.RowFacts.{RowFacts, row-facts, column-few, column-byte, entry-is, own-columns, own-full, own-key-below, held-midway, held-entries, table-there, table-held}
+use Rattle.laid.proofs.Stores.{held-state}
+use Rattle.laid.proofs.RowFacts.{RowFacts, row-facts, column-few, entry-is, own-columns, own-full, own-key-below, held-midway, held-entries, table-there, table-held}
 use Rattle.laid.proofs.Finding.{drop_nth}
 use Rattle.laid.proofs.Midway.{Midway, mid-removed, removed-entries, mid-inside, mid-entered, mid-table, mid-table-bytes, mid-column, mid_row, mid-row-long, mid-cell}
 use Rattle.changes.proofs.Changing.{Begun}
@@ -149,7 +149,6 @@ module _ (p : Profile) (R : ℕ) (st : State) (o : Sorted cmp_row st.rows) (r : 
 pub record RemoveTurn (p : Profile) (R : ℕ) (s₀ : List ℕ) (t i : ℕ) (name : Text) (count : ℕ) (key : D.Value) (j : ℕ) (s : List ℕ) : Type 0 where
   pub held : LaidStore p R s₀
   pub of : RowOf p R s₀ t i
-  pub few : j ≤ count
   pub facts : RowFacts p R (table_in p R s₀ t) (row_in p R s₀ i) name count key
   pub removes : Removes p R (parse p R s₀) (row_in p R s₀ i) (table_in p R s₀ t).columns j s
 
@@ -182,7 +181,6 @@ module _ {p : Profile} {R : ℕ} {s₀ : List ℕ} {t i : ℕ} (b : LaidStore p 
         record {
           held = b;
           of = o;
-          few = omega arith;
           facts = row-facts p b.coded R b.places (parse p R s₀) (held-state p R s₀ b) (table_in p R s₀ t) there (row_in p R s₀ i) stood o.of name x.named x.packed count ec z.value
               (ez.0 ∙ ap (cell_at (row_in p R s₀ i).cells) x.key) ez.1;
           removes = removes-start p R (parse p R s₀) (held-state p R s₀ b).rows-sorted (row_in p R s₀ i) i (row_at p R s₀ b i o.stored) (table_in p R s₀ t).columns columns-are s₀ (held-midway p R s₀ b) (held-entries p R s₀ b);
@@ -197,9 +195,6 @@ module _ {p : Profile} {R : ℕ} {s₀ : List ℕ} {t i : ℕ} {name : Text} {co
 
   inside : Inside p R s
   inside = mid-inside p x.facts.coded R x.facts.places (parse p R s₀) s turn-mid
-
-  pub remove-length : length s ≡ length s₀
-  remove-length = omega (arith, inside.long, (held-inside p R s₀ x.held).long)
 
   -- the record goes when no column is left
   module _ (h : count ≤ j) {from w : ℕ} (ef : from ≡ rows_at p) (ew : w ≡ row_width p) where
@@ -224,9 +219,6 @@ module _ {p : Profile} {R : ℕ} {s₀ : List ℕ} {t i : ℕ} {name : Text} {co
     few-columns : j < p.columns
     few-columns = column-few p R T r name count key x.facts j h
 
-    pub turn_byte : j < 256
-    turn_byte = column-byte p R T r name count key x.facts j h
-
     pub turn-table : Inside p R s × (t < length (lists p R s).schemas)
     turn-table = (inside, mid-table p x.facts.coded R x.facts.places (parse p R s₀) s turn-mid t T at_table)
 
@@ -249,7 +241,6 @@ module _ {p : Profile} {R : ℕ} {s₀ : List ℕ} {t i : ℕ} {name : Text} {co
             record {
               held = x.held;
               of = x.of;
-              few = omega arith;
               facts = x.facts;
               removes = subst (Removes p R (parse p R s₀) r T.columns (j + 1)) (sym e₂) y;
             }

@@ -9,7 +9,6 @@ use native.Mathlib.Numerals.{add-one}
 use native.Mathlib.Omega.{arith}
 use mathlib.Core.List.{List, [], ◌∷◌, ◌++◌}
 use lib.ListN.{length, take, drop, get_or, replicate, length-map, drop_of_length-le}
-use lib.Seq.{length-take-le}
 use borrow.Rule.Slice.PartMut.{put_mid}
 use Rattle.values.specs.Basic.{is_lt, insert_by, nth}
 use Rattle.values.specs.Value.{Value, normalised, same}
@@ -40,7 +39,6 @@ use Rattle.rules.proofs.Laid.{laid-lists, laid-replaced, laid-within, laid-part}
 use Rattle.rules.proofs.Lists.{nth_in, nth-below, map_at_lem}
 use Rattle.rules.proofs.Trip.{GoodRow, GoodEntry, row-long, canonical-normal}
 use Rattle.rules.proofs.Valid.{LaidState, laid-is}
-use Rattle.laid.specs.declared.row.Row.{Row}
 use Rattle.laid.specs.declared.catalog.Column.{Column}
 use Rattle.laid.specs.Column.{column_of, ColumnRead}
 use Rattle.laid.specs.Catalog.{TableBytes}
@@ -54,7 +52,7 @@ use Rattle.changes.proofs.RowRemoved.{rank-nth}
 use Rattle.laid.proofs.Midway.{Midway, midway-of, entries-back, mid-added, added-entries, mid-removed, removed-entries, mid-inside, mid-entered, mid-table, mid-table-bytes, mid-column, mid_row, mid-row-long, mid-cell}
 use Rattle.laid.proofs.Keyed.{row_at, row-in}
 use Rattle.laid.proofs.Stores.{held-state, held-inside}
-use Rattle.laid.proofs.RowFacts.{RowFacts, row-facts, column-few, column-byte, good-entry, entry-is, own-columns, own-full, own-key-below, own_key, own-key-good, own-good, held-midway, held-entries, table-there, table-held}
+use Rattle.laid.proofs.RowFacts.{RowFacts, row-facts, column-few, good-entry, entry-is, own-columns, own-full, own-key-below, own_key, own-key-good, own-good, held-midway, held-entries, table-there, table-held}
 use Rattle.changes.proofs.Changing.{Begun, Place, place_of}
 use Rattle.changes.proofs.RowAdded.{record-parts, record-rest, flight, flight-cell, flight-proper}
 
@@ -183,22 +181,21 @@ module _ (p : Profile) (k : Coded p) (R : ℕ) (most : R ≤ places_most) (st : 
 
 -- ---- a row that can take the place of another
 
-abbrev in_flight : Profile → ℕ → List ℕ → ℕ → Row → S.Row
+abbrev in_flight : Profile → ℕ → List ℕ → ℕ → List Cell → S.Row
 in_flight p R s t row = row_of (table_in p R s t) (cells_of row)
 
-abbrev index : Profile → ℕ → List ℕ → ℕ → Row → List Entry
+abbrev index : Profile → ℕ → List ℕ → ℕ → List Cell → List Entry
 index p R s t row = index_of (parse p R s).tables (with_row (in_flight p R s t row) (parse p R s).rows)
 
-pub record ReplaceTurn (p : Profile) (R : ℕ) (s₀ : List ℕ) (t i : ℕ) (row : Row) (name : Text) (key : D.Value) (j : ℕ) (s : List ℕ) : Type 0 where
+pub record ReplaceTurn (p : Profile) (R : ℕ) (s₀ : List ℕ) (t i : ℕ) (row : List Cell) (name : Text) (key : D.Value) (j : ℕ) (s : List ℕ) : Type 0 where
   pub held : LaidStore p R s₀
   pub proper : ProperRow row
   pub able : Replaceable p R s₀ t i (cells_of row)
-  pub few : j ≤ row.count
-  pub olds : RowFacts p R (table_in p R s₀ t) (row_in p R s₀ i) name row.count key
-  pub news : RowFacts p R (table_in p R s₀ t) (in_flight p R s₀ t row) name row.count key
+  pub olds : RowFacts p R (table_in p R s₀ t) (row_in p R s₀ i) name (length row) key
+  pub news : RowFacts p R (table_in p R s₀ t) (in_flight p R s₀ t row) name (length row) key
   pub swaps : Swaps p R (parse p R s₀) (index p R s₀ t row) (row_in p R s₀ i) (in_flight p R s₀ t row) (table_in p R s₀ t).columns j s
 
-module _ (p : Profile) (R : ℕ) (s₀ : List ℕ) (b : LaidStore p R s₀) (t i : ℕ) (row : Row) (pr : ProperRow row) (a : Replaceable p R s₀ t i (cells_of row)) where
+module _ (p : Profile) (R : ℕ) (s₀ : List ℕ) (b : LaidStore p R s₀) (t i : ℕ) (row : List Cell) (pr : ProperRow row) (a : Replaceable p R s₀ t i (cells_of row)) where
   abbrev T : Table
   T = table_in p R s₀ t
 
@@ -227,13 +224,12 @@ module _ (p : Profile) (R : ℕ) (s₀ : List ℕ) (b : LaidStore p R s₀) (t i
   stood : In before (parse p R s₀).rows
   stood = row-in p R s₀ b i a.row.stored
 
-  coming-full : row.count ≡ length T.columns
+  coming-full : length row ≡ length T.columns
   unfolding cells_of
   coming-full =
-      sym (length-map (take row.count row.cells) held ∙ length-take-le row.count row.cells pr.few)
-      ∙ own-full p R later later-laid T there coming came refl
+      sym (length-map row held) ∙ own-full p R later later-laid T there coming came refl
 
-  coming-key-below : T.key < row.count
+  coming-key-below : T.key < length row
   coming-key-below = omega (arith, coming-full, own-key-below p R later later-laid T there coming came refl)
 
   keys-agree : normalised before.key ≡ coming.key
@@ -252,12 +248,12 @@ module _ (p : Profile) (R : ℕ) (s₀ : List ℕ) (b : LaidStore p R s₀) (t i
   coming-good = own-good p R later later-laid T there coming came refl
 
   module _ (name : Text) (en : text_bytes name ≡ T.name) (hn : Packed name) (key : D.Value) (ek : meaning key ≡ cell_at (cells_of row) T.key) (hk : Proper key) where
-    new-facts : RowFacts p R T coming name row.count key
-    new-facts = row-facts p b.coded R b.places later later-laid T there coming came refl name en hn row.count coming-full key ek hk
+    new-facts : RowFacts p R T coming name (length row) key
+    new-facts = row-facts p b.coded R b.places later later-laid T there coming came refl name en hn (length row) coming-full key ek hk
 
-    old-facts : RowFacts p R T before name row.count key
+    old-facts : RowFacts p R T before name (length row) key
     old-facts =
-        row-facts p b.coded R b.places (parse p R s₀) (held-state p R s₀ b) T there before stood a.row.of name en hn row.count coming-full key
+        row-facts p b.coded R b.places (parse p R s₀) (held-state p R s₀ b) T there before stood a.row.of name en hn (length row) coming-full key
         (ek ∙ own_key p R later later-laid T there coming came refl kn ∙ sym same_key_lem ∙ sym (own_key p R (parse p R s₀) (held-state p R s₀ b) T there before stood a.row.of kn)) hk
 
     replaced-start : ReplaceTurn p R s₀ t i row name key 0 s₀
@@ -266,13 +262,12 @@ module _ (p : Profile) (R : ℕ) (s₀ : List ℕ) (b : LaidStore p R s₀) (t i
           held = b;
           proper = pr;
           able = a;
-          few = omega arith;
           olds = old-facts;
           news = new-facts;
           swaps = swaps-start p b.coded R b.places (parse p R s₀) (held-state p R s₀ b).rows-sorted before coming i (row_at p R s₀ b i a.row.stored) one-place-both T.columns columns-are s₀ (held-midway p R s₀ b) (held-entries p R s₀ b);
         }
 
-  module _ (j : ℕ) (s : List ℕ) (x : Swaps p R (parse p R s₀) (index p R s₀ t row) before coming T.columns j s) (h : row.count ≤ j)
+  module _ (j : ℕ) (s : List ℕ) (x : Swaps p R (parse p R s₀) (index p R s₀ t row) before coming T.columns j s) (h : length row ≤ j)
       (from w : ℕ) (ef : from ≡ rows_at p) (ew : w ≡ row_width p) where
     replaced-room : from + i * w + w ≤ length s
     replaced-room =
@@ -291,18 +286,18 @@ module _ (p : Profile) (R : ℕ) (s₀ : List ℕ) (b : LaidStore p R s₀) (t i
     replaced-length : length s ≡ length s₀
     replaced-length = omega (arith, (mid-inside p b.coded R b.places (parse p R s₀) s x.mid).long, (held-inside p R s₀ b).long)
 
-    replaced-done : (n y : List ℕ) → n ≡ T.name → y ≡ row_bytes n (cells_of row) ++ drop (25 + row.count * 26) (take (from + i * w + w - (from + i * w)) (drop (from + i * w) s))
+    replaced-done : (n y : List ℕ) → n ≡ T.name → y ≡ row_bytes n (cells_of row) ++ drop (25 + length row * 26) (take (from + i * w + w - (from + i * w)) (drop (from + i * w) s))
         → put_mid (from + i * w) (from + i * w + w - (from + i * w)) s y ≡ image p R (apply (replaced before coming) (parse p R s₀))
     replaced-done n y en ey =
-        let cb : length before.cells ≡ row.count = own-full p R (parse p R s₀) (held-state p R s₀ b) T there before stood a.row.of ∙ sym coming-full in
-        let cc : length (cells_of row) ≡ row.count = own-full p R later later-laid T there coming came refl ∙ sym coming-full in
-        let z : ◌≡◌ {A = List ℕ} (drop (25 + row.count * 26) (row_record p before)) (replicate (p.columns * p.cell - length (cells_of row) * 26) 0) =
+        let cb : length before.cells ≡ length row = own-full p R (parse p R s₀) (held-state p R s₀ b) T there before stood a.row.of ∙ sym coming-full in
+        let cc : length (cells_of row) ≡ length row = own-full p R later later-laid T there coming came refl ∙ sym coming-full in
+        let z : ◌≡◌ {A = List ℕ} (drop (25 + length row * 26) (row_record p before)) (replicate (p.columns * p.cell - length (cells_of row) * 26) 0) =
         ap (λ (m : ℕ). drop (25 + m * 26) (row_record p before)) (sym cb)
         ∙ record-rest p b.coded before before-good
         ∙ ap {B = List ℕ} (λ (m : ℕ). replicate (p.columns * p.cell - m * 26) 0) (cb ∙ sym cc)
         in
         let ry : y ≡ row_record p coming =
-        ey ∙ ap (λ (l : List ℕ). row_bytes n (cells_of row) ++ l) (ap (drop (25 + row.count * 26)) part-was ∙ z)
+        ey ∙ ap (λ (l : List ℕ). row_bytes n (cells_of row) ++ l) (ap (drop (25 + length row * 26)) part-was ∙ z)
         ∙ ap (λ (m : List ℕ). row_bytes m (cells_of row) ++ replicate (p.columns * p.cell - length (cells_of row) * 26) 0) en
         ∙ sym (record-parts p b.coded coming coming-good)
         in
@@ -311,33 +306,30 @@ module _ (p : Profile) (R : ℕ) (s₀ : List ℕ) (b : LaidStore p R s₀) (t i
 
 -- ---- the start, with the name and the key column read
 
-module _ {p : Profile} {R : ℕ} {s₀ : List ℕ} {t : ℕ} {name : Text} {column : ℕ} (x : Begun p R s₀ t name column) {i : ℕ} {row : Row} (pr : ProperRow row) (a : Replaceable p R s₀ t i (cells_of row)) where
-  swap-below : column < row.count
-  swap-below = omega (arith, x.key, coming-key-below p R s₀ x.table.held t i row pr a)
-
-  pub swap_eight : column < 8
-  swap_eight = omega (arith, swap-below, pr.most)
+module _ {p : Profile} {R : ℕ} {s₀ : List ℕ} {t : ℕ} {name : Text} {column : ℕ} (x : Begun p R s₀ t name column) {i : ℕ} {row : List Cell} (pr : ProperRow row) (a : Replaceable p R s₀ t i (cells_of row)) where
+  pub swap-below : column < length row
+  swap-below = omega (arith, x.key, coming-key-below p R s₀ x.held t i row pr a)
 
   pub swap-start : ReplaceTurn p R s₀ t i row name (flight row column) 0 s₀
   swap-start =
-      replaced-start p R s₀ x.table.held t i row pr a name x.named x.packed (flight row column) (flight-cell row pr column swap-below ∙ ap (cell_at (cells_of row)) x.key)
+      replaced-start p R s₀ x.held t i row pr a name x.named x.packed (flight row column) (flight-cell row pr column swap-below ∙ ap (cell_at (cells_of row)) x.key)
       (flight-proper row pr column swap-below)
 
 -- ---- a turn of the loop
 
-module _ {p : Profile} {R : ℕ} {s₀ : List ℕ} {t i : ℕ} {row : Row} {name : Text} {key : D.Value} {j : ℕ} {s : List ℕ} (x : ReplaceTurn p R s₀ t i row name key j s) where
+module _ {p : Profile} {R : ℕ} {s₀ : List ℕ} {t i : ℕ} {row : List Cell} {name : Text} {key : D.Value} {j : ℕ} {s : List ℕ} (x : ReplaceTurn p R s₀ t i row name key j s) where
   -- the record, when no column is left
-  module _ (h : row.count ≤ j) {from w : ℕ} (ef : from ≡ rows_at p) (ew : w ≡ row_width p) where
+  module _ (h : length row ≤ j) {from w : ℕ} (ef : from ≡ rows_at p) (ew : w ≡ row_width p) where
     pub swap-place : Place p s₀ s from w i
     swap-place =
         place_of x.held (replaced-room p R s₀ x.held t i row x.proper x.able j s x.swaps h from w ef ew) (replaced-part p R s₀ x.held t i row x.proper x.able j s x.swaps h from w ef ew)
         (replaced-length p R s₀ x.held t i row x.proper x.able j s x.swaps h from w ef ew)
 
-    pub swap-whole : {y : List ℕ} → y ≡ row_bytes (text_bytes name) (cells_of row) ++ drop (25 + row.count * 26) (take (from + i * w + w - (from + i * w)) (drop (from + i * w) s))
+    pub swap-whole : {y : List ℕ} → y ≡ row_bytes (text_bytes name) (cells_of row) ++ drop (25 + length row * 26) (take (from + i * w + w - (from + i * w)) (drop (from + i * w) s))
         → put_mid (from + i * w) (from + i * w + w - (from + i * w)) s y ≡ image p R (apply (replaced (row_in p R s₀ i) (in_flight p R s₀ t row)) (parse p R s₀))
     swap-whole {y} ey = replaced-done p R s₀ x.held t i row x.proper x.able j s x.swaps h from w ef ew (text_bytes name) y x.news.named ey
 
-  module _ (h : j < row.count) where
+  module _ (h : j < length row) where
     k : Coded p
     k = x.olds.coded
 
@@ -353,14 +345,8 @@ module _ {p : Profile} {R : ℕ} {s₀ : List ℕ} {t i : ℕ} {row : Row} {name
     at_row : nth (parse p R s₀).rows i ≡ some (row_in p R s₀ i)
     at_row = row_at p R s₀ x.held i x.able.row.stored
 
-    pub swap-eighth : j < 8
-    swap-eighth = omega (arith, x.proper.most)
-
-    pub swap-byte : j < 256
-    swap-byte = column-byte p R (table_in p R s₀ t) (row_in p R s₀ i) name row.count key x.olds j h
-
     few-columns : j < p.columns
-    few-columns = column-few p R (table_in p R s₀ t) (row_in p R s₀ i) name row.count key x.olds j h
+    few-columns = column-few p R (table_in p R s₀ t) (row_in p R s₀ i) name (length row) key x.olds j h
 
     inside : Inside p R s
     inside = mid-inside p k R most (parse p R s₀) s mid
@@ -388,7 +374,6 @@ module _ {p : Profile} {R : ℕ} {s₀ : List ℕ} {t i : ℕ} {row : Row} {name
               held = x.held;
               proper = x.proper;
               able = x.able;
-              few = omega arith;
               olds = x.olds;
               news = x.news;
               swaps = subst (Swaps p R (parse p R s₀) (index p R s₀ t row) (row_in p R s₀ i) (in_flight p R s₀ t row) (table_in p R s₀ t).columns (j + 1)) (sym e₂) y;
@@ -406,10 +391,10 @@ module _ {p : Profile} {R : ℕ} {s₀ : List ℕ} {t i : ℕ} {row : Row} {name
           new-cell = flight-cell row x.proper j h
 
           old-is : entry_of name j z.value key ≡ entry_at (row_in p R s₀ i) j
-          old-is = entry-is p R (table_in p R s₀ t) (row_in p R s₀ i) name row.count key x.olds j h z.value old-cell
+          old-is = entry-is p R (table_in p R s₀ t) (row_in p R s₀ i) name (length row) key x.olds j h z.value old-cell
 
           new_is : entry_of name j (flight row j) key ≡ entry_at (in_flight p R s₀ t row) j
-          new_is = entry-is p R (table_in p R s₀ t) (in_flight p R s₀ t row) name row.count key x.news j h (flight row j) new-cell
+          new_is = entry-is p R (table_in p R s₀ t) (in_flight p R s₀ t row) name (length row) key x.news j h (flight row j) new-cell
 
           same-is : same (meaning z.value) (meaning (flight row j)) ≡ same (cell_at (row_in p R s₀ i).cells j) (cell_at (cells_of row) j)
           same-is = ap (λ (v : Value). same v (meaning (flight row j))) old-cell ∙ ap (same (cell_at (row_in p R s₀ i).cells j)) new-cell
@@ -429,7 +414,7 @@ module _ {p : Profile} {R : ℕ} {s₀ : List ℕ} {t i : ℕ} {row : Row} {name
           swap-next {y} l e₂ =
               swap-turn
               (swaps-next p k R most (parse p R s₀) (index p R s₀ t row) (row_in p R s₀ i) (in_flight p R s₀ t row) (table_in p R s₀ t).columns j s x.swaps (column_of c) column-is e
-              (good-entry p R (table_in p R s₀ t) (in_flight p R s₀ t row) name row.count key x.news j h) (same (meaning z.value) (meaning (flight row j))) (sym same-is) y
+              (good-entry p R (table_in p R s₀ t) (in_flight p R s₀ t row) name (length row) key x.news j h) (same (meaning z.value) (meaning (flight row j))) (sym same-is) y
               (subst (λ (q : Entry). Laid p R y (cond (same (meaning z.value) (meaning (flight row j))) (lists p R s) (entry_exchanged p R q (entry_at (in_flight p R s₀ t row) j) s))) old-is
               (subst (λ (q : Entry). Laid p R y (cond (same (meaning z.value) (meaning (flight row j))) (lists p R s) (entry_exchanged p R (entry_of name j z.value key) q s))) new_is l)))
               e₂

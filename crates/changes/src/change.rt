@@ -14,27 +14,20 @@ ghost use Rattle.laid.specs.Row.{cells_of, ProperRow, row_in, table_in, Addable,
 
 use areas::{area, search};
 use laid::layout::{ENTRIES_BYTES, ENTRIES_COUNT, ROWS_BYTES, ROWS_COUNT};
-use laid::row::Row;
 use laid::{catalog, entry, layout, row};
 use rules::profile::Profile;
-use values::value::{Cell, Order, Text, Value};
+use values::value::{Cell, Text, Value};
 use values::{cell, value};
 
 // A row's name and cells, written through its part of the store.
-fn write_row(part: &mut [u8], p: Profile, name: Text, row: Row)
-    requires { Coded p × (length part.old ≡ row_width p) × Packed name × ProperRow row × (row.count ≤ p.columns) }
-    ensures { part.new ≡ row_bytes (text_bytes name) (cells_of row) ++ drop (name_width + row.count * cell_width) part.old }
+fn write_row(part: &mut [u8], p: Profile, name: Text, row: &[Cell])
+    requires { Coded p × (length part.old ≡ row_width p) × Packed name × ProperRow row.now × (length row.now ≤ p.columns) }
+    ensures { part.new ≡ row_bytes (text_bytes name) (cells_of row.now) ++ drop (name_width + length row.now * cell_width) part.old }
 {
-    cell::write_name(&mut part[0..cell::NAME_WIDTH], name);
-    let cells = row.cells;
-    let count = row.count;
-    let mut j = 0;
-    while j < count {
+    cell::write_name(&mut part[..cell::NAME_WIDTH], name);
+    for (j, cell) in row.iter().enumerate() {
         let from = cell::NAME_WIDTH + j * p.cell;
-        let end = from + cell::CELL_WIDTH;
-        let c = cells[j];
-        cell::write_cell(&mut part[from..end], c);
-        j += 1;
+        cell::write_cell(&mut part[from..from + cell::CELL_WIDTH], *cell);
     }
 }
 
@@ -43,7 +36,7 @@ fn write_entry(part: &mut [u8], name: Text, column: u8, v: Value, key: Value)
     requires { (length part.old ≡ name_width + 1 + cell_width + cell_width) × ProperEntry name v key }
     ensures { part.new ≡ entry_bytes (entry_of name column v key) }
 {
-    cell::write_name(&mut part[0..cell::NAME_WIDTH], name);
+    cell::write_name(&mut part[..cell::NAME_WIDTH], name);
     part[search::ENTRY_COLUMN] = column;
     cell::write_cell(
         &mut part[search::ENTRY_VALUE..search::ENTRY_KEY],
@@ -65,9 +58,8 @@ fn add_entry(s: &mut [u8], p: Profile, places: usize, name: Text, column: u8, v:
     let width = layout::entry_width(p);
     let most = p.entries * places;
     area::open_counted(s, ENTRIES_COUNT, ENTRIES_BYTES, from, most, width, i);
-    let a = from + i * width;
-    let e = a + width;
-    write_entry(&mut s[a..e], name, column, v, key);
+    let at = from + i * width;
+    write_entry(&mut s[at..at + width], name, column, v, key);
 }
 
 // Takes an index entry out.
@@ -104,43 +96,33 @@ fn exchange(
     requires { Entered p places s.old × ProperEntry name old key × ProperEntry name new key × (same (meaning old) (meaning new) ≡ false → entry_in p places (entry_of name column old key) s.old ≡ true) }
     ensures { Laid p places s.new (cond (same (meaning old) (meaning new)) (lists p places s.old) (entry_exchanged p places (entry_of name column old key) (entry_of name column new key) s.old)) }
 {
-    match value::compare(old, new) {
-        Order::Same => {}
-        _ => {
-            remove_entry(s, p, places, name, column, old, key);
-            add_entry(s, p, places, name, column, new, key);
-        }
+    if !value::compare(old, new).is_eq() {
+        remove_entry(s, p, places, name, column, old, key);
+        add_entry(s, p, places, name, column, new, key);
     }
 }
 
 // Adds a row to the table at place t: its index entries, then its record.
-pub fn add_row(s: &mut [u8], p: Profile, places: usize, t: usize, row: Row)
-    requires { LaidStore p places s.old × ProperRow row × Addable p places s.old t (cells_of row) }
-    ensures { s.new ≡ image p places (apply (added (row_of (table_in p places s.old t) (cells_of row))) (parse p places s.old)) }
+pub fn add_row(s: &mut [u8], p: Profile, places: usize, t: usize, row: &[Cell])
+    requires { LaidStore p places s.old × ProperRow row.now × Addable p places s.old t (cells_of row.now) }
+    ensures { s.new ≡ image p places (apply (added (row_of (table_in p places s.old t) (cells_of row.now))) (parse p places s.old)) }
 {
-    let name = cell::read_name(layout::table_record(s, p, places, t));
-    let column = catalog::key_column(layout::table_record(s, p, places, t));
-    let cells = row.cells;
-    let k = cells[column];
-    let key = k.value;
+    let table = layout::table_record(s, p, places, t);
+    let name = cell::read_name(table);
+    let column = catalog::key_column(table);
+    let key = row[column].value;
     let i = row::rank_of(s, p, places, name, column, key);
-    let count = row.count;
-    let mut j = 0;
-    while j < count {
+    for (j, cell) in row.iter().enumerate() {
         let c = catalog::read_column(layout::table_record(s, p, places, t), p, j);
         if c.index {
-            let x = cells[j];
-            let v = x.value;
-            add_entry(s, p, places, name, j as u8, v, key);
+            add_entry(s, p, places, name, j as u8, cell.value, key);
         }
-        j += 1;
     }
     let from = layout::rows_at(p);
     let width = layout::row_width(p);
     area::open_counted(s, ROWS_COUNT, ROWS_BYTES, from, places, width, i);
-    let a = from + i * width;
-    let e = a + width;
-    write_row(&mut s[a..e], p, name, row);
+    let at = from + i * width;
+    write_row(&mut s[at..at + width], p, name, row);
 }
 
 // Takes the row at place i of the table at place t out.
@@ -148,20 +130,17 @@ pub fn remove_row(s: &mut [u8], p: Profile, places: usize, t: usize, i: usize)
     requires { LaidStore p places s.old × RowOf p places s.old t i }
     ensures { s.new ≡ image p places (apply (removed (row_in p places s.old i)) (parse p places s.old)) }
 {
-    let name = cell::read_name(layout::table_record(s, p, places, t));
-    let column = catalog::key_column(layout::table_record(s, p, places, t));
-    let count = catalog::column_count(layout::table_record(s, p, places, t));
-    let k = row::cell_at(s, p, places, i, column);
-    let key = k.value;
-    let mut j = 0;
-    while j < count {
+    let table = layout::table_record(s, p, places, t);
+    let name = cell::read_name(table);
+    let column = catalog::key_column(table);
+    let count = catalog::column_count(table);
+    let key = row::cell_at(s, p, places, i, column).value;
+    for j in 0..count {
         let c = catalog::read_column(layout::table_record(s, p, places, t), p, j);
         if c.index {
-            let x = row::cell_in(layout::row_record(s, p, places, i), p, j);
-            let v = x.value;
+            let v = row::cell_in(layout::row_record(s, p, places, i), p, j).value;
             remove_entry(s, p, places, name, j as u8, v, key);
         }
-        j += 1;
     }
     area::close_counted(
         s,
@@ -176,31 +155,23 @@ pub fn remove_row(s: &mut [u8], p: Profile, places: usize, t: usize, i: usize)
 }
 
 // Puts a row with the same key in place of the one at place i of the table at place t.
-pub fn replace_row(s: &mut [u8], p: Profile, places: usize, t: usize, i: usize, row: Row)
-    requires { LaidStore p places s.old × ProperRow row × Replaceable p places s.old t i (cells_of row) }
-    ensures { s.new ≡ image p places (apply (replaced (row_in p places s.old i) (row_of (table_in p places s.old t) (cells_of row))) (parse p places s.old)) }
+pub fn replace_row(s: &mut [u8], p: Profile, places: usize, t: usize, i: usize, row: &[Cell])
+    requires { LaidStore p places s.old × ProperRow row.now × Replaceable p places s.old t i (cells_of row.now) }
+    ensures { s.new ≡ image p places (apply (replaced (row_in p places s.old i) (row_of (table_in p places s.old t) (cells_of row.now))) (parse p places s.old)) }
 {
-    let name = cell::read_name(layout::table_record(s, p, places, t));
-    let column = catalog::key_column(layout::table_record(s, p, places, t));
-    let cells = row.cells;
-    let k = cells[column];
-    let key = k.value;
-    let count = row.count;
-    let mut j = 0;
-    while j < count {
+    let table = layout::table_record(s, p, places, t);
+    let name = cell::read_name(table);
+    let column = catalog::key_column(table);
+    let key = row[column].value;
+    for (j, cell) in row.iter().enumerate() {
         let c = catalog::read_column(layout::table_record(s, p, places, t), p, j);
         if c.index {
-            let x = row::cell_in(layout::row_record(s, p, places, i), p, j);
-            let old = x.value;
-            let y = cells[j];
-            let new = y.value;
+            let old = row::cell_in(layout::row_record(s, p, places, i), p, j).value;
+            let new = cell.value;
             exchange(s, p, places, name, j as u8, old, new, key);
         }
-        j += 1;
     }
-    let from = layout::rows_at(p);
     let width = layout::row_width(p);
-    let a = from + i * width;
-    let e = a + width;
-    write_row(&mut s[a..e], p, name, row);
+    let at = layout::rows_at(p) + i * width;
+    write_row(&mut s[at..at + width], p, name, row);
 }

@@ -1,18 +1,17 @@
 -- A row's faults as the code finds them: a table's key column, references that miss their target, values that exist, and each column in turn.
 -- Assumes nothing.
 use mathlib.Core.Path.{◌≡◌, refl, sym, ap, ◌∙◌}
-use mathlib.Core.Bool.{Bool, true, false, not, ◌&&◌}
+use mathlib.Core.Bool.{Bool, true, false, not, ◌&&◌, ◌||◌}
 use mathlib.Core.Option
 use mathlib.Core.Option.{Option, none, some, none-ne-some, some-injective}
-use Prim.Native.Nat.{ℕ, zero, suc, ◌+◌, ◌-◌, ◌*◌, ◌≤◌, ◌<◌, Ordering}
+use Prim.Native.Nat.{ℕ, zero, suc, ◌+◌, ◌-◌, ◌*◌, ◌≤◌, ◌<◌}
 use native.Mathlib.Nat.{mul-le-mul}
 use native.Mathlib.Omega.{arith}
 use mathlib.Core.List.{List, [], ◌∷◌, map}
 use lib.Dec.{eqb, compare_is_eq}
 use lib.ListN.{length, take, drop, get_or, length-map}
-use borrow.Author.Tests.{eq-eqb, ne_eqb, not-true, not-false}
-use Rattle.values.specs.Basic.{is_lt, find, nth, is_some, only_if, maybe, ◌or_else◌}
-use Rattle.values.specs.Value.{Value, kind_of, is_null, is_undefined, same}
+use Rattle.values.specs.Basic.{is_lt, find, nth, is_some, maybe}
+use Rattle.values.specs.Value.{Value, null, same}
 use Rattle.values.specs.Cell.{name_width, read_value}
 use Rattle.areas.specs.Search.{cmp_named}
 use Rattle.areas.specs.Sorted.{In}
@@ -20,32 +19,43 @@ use Rattle.areas.specs.Counted.{count_at}
 use Rattle.areas.proofs.Halving.{count-le}
 use Rattle.areas.proofs.Placing.{find-nothing}
 use Rattle.rules.specs.declared.profile.Profile.{Profile}
-use Rattle.rules.specs.declared.answer.Refusal.{Refusal}
-use Rattle.rules.specs.declared.answer.Refusal.TheVariants.{Accepted, WrongKind, NullNotAllowed, TargetMissing, ValueExists}
-use Rattle.rules.specs.Refusal.{number_of}
+use Rattle.rules.specs.Refusal.{Refusal, WrongKind, NullNotAllowed}
 use Rattle.rules.specs.Profile.{places_most}
-use Rattle.rules.specs.State.{Name, same_name, Column, Table, Row, table_named, is_row, of_table, has_row}
+use Rattle.rules.specs.State.{Name, Column, same_name, Table, Row, table_named, is_row, of_table, has_row}
 use Rattle.rules.specs.Index.{Entry, cmp_entry, index_of}
-use Rattle.rules.specs.Layout.{lists, Entries, entries_count, read_table, read_entry, parse}
-use Rattle.rules.specs.Schema.{first}
-use Rattle.rules.specs.Rows.{missing, taken, exists, cell_fault}
+use Rattle.rules.specs.Layout.{lists, Entries, entries_count, area_at, record_width, read_table, read_entry, parse}
+use Rattle.rules.specs.Rows.{missing, taken, cell_fault}
 use Rattle.rules.proofs.Tests.{and_left, name-is}
 use Rattle.rules.proofs.Lists.{any_none, nth_in, nth-below}
 use Rattle.rules.proofs.Index.{index-sorted}
 use Rattle.rules.proofs.Room.{key-column, few-columns}
 use Rattle.rules.proofs.Whole.{index_back}
 use Rattle.laid.specs.Store.{LaidStore}
-use Rattle.laid.specs.Catalog.{place_of}
-use Rattle.checks.specs.Faults.{kind_of_fault}
+use Rattle.laid.specs.Catalog.{place_of, found_at}
+use Rattle.std.specs.Option as O
+use Rattle.std.proofs.Common.{is_eq}
+use Rattle.std.specs.declared.cmp.Ordering.{Ordering as Compared}
+use Rattle.std.specs.declared.cmp.Ordering.TheVariants.{Less, Equal, Greater}
+use Rattle.values.specs.Meaning.{ordering}
+use Rattle.std.specs.declared.option.Option.{Option as Held}
+use Rattle.std.specs.declared.option.Option.TheVariants.{None, Some}
 use Rattle.laid.specs.Row.{KeyColumn}
 use Rattle.laid.specs.Entered.{entries_in, Entered, entry_rank}
-use Rattle.checks.specs.Asked.{table_with, bytes_of_value, other_at, kind_fault}
-use Rattle.laid.proofs.Inside.{area-count, count-within}
+use Rattle.checks.specs.Asked.{table_with, indexed_at, bytes_of_value, other_at, kind_fault}
+use Rattle.laid.proofs.Inside.{area-count, count-within, record-wide}
+use Rattle.laid.proofs.Entering.{entry-width}
 use Rattle.laid.proofs.Stores.{held-state, held-laid, held-lists, held-inside}
 use Rattle.laid.proofs.Finding.{nth-map, nth-get_or, nth_past, place_found, place-missing}
 use Rattle.laid.proofs.Columns.{rest, key-byte}
 use Rattle.laid.proofs.Searching.{table_at, found-table}
-use Rattle.checks.proofs.Faulting.{Told, told, first-append, first-refuses, first_passes}
+use Rattle.checks.proofs.Faulting.{or-first, first-append}
+use Rattle.checks.proofs.Taking.{rank-null, taken-two}
+
+-- the code's comparison
+pub compared-equal : (r : Compared) → is_eq r ≡ compare_is_eq (ordering r)
+compared-equal Less = refl
+compared-equal Equal = refl
+compared-equal Greater = refl
 
 -- ---- a place found is a row found
 
@@ -62,6 +72,11 @@ module _ {A : Type 0} (q : A → Bool) (xs : List A) where
 
   pub place_none : none ≡ place_of q xs → false ≡ is_some (find q xs)
   place_none e = sym (ap is_some (place-missing q xs (sym e)))
+
+  -- the code's place
+  pub found-some : (r : Held ℕ) → found_at r ≡ place_of q xs → O.is_some r ≡ is_some (find q xs)
+  found-some None e = place_none e
+  found-some (Some i) e = place-some i e
 
 -- ---- tables, rows and entries of a store that is laid out
 
@@ -128,6 +143,14 @@ module _ (p : Profile) (R : ℕ) (s : List ℕ) (b : LaidStore p R s) where
         count-within p R s (held-inside p R s b) Entries,
       )
 
+  -- another row has the value: two entries decide, where `k` is NULL
+  pub taken-here : (n : Name) (column : ℕ) (v : Value) (update : Bool) (key : Value) → indexed_at tables n column ≡ true
+      → (k : Value) → k ≡ null → (j : ℕ) → j ≡ entry_rank p R (record { table = n; column = column; value = v; key = k }) s
+      → taken rows (table_with n 0) update key column v ≡ (other_at (entries_in p R s) j n column v update key || other_at (entries_in p R s) (j + 1) n column v update key)
+  taken-here n column v update key x k ek j ej =
+      taken-two n column v update key tables rows (held-state p R s b).rows-sorted x (entries_in p R s) entries-are held-entered.sorted j
+      (rank-null n column v (entries_in p R s) k j ek ej)
+
   module _ (i : ℕ) where
     pub entry_at : i < length (lists p R s).entries → nth (entries_in p R s) i ≡ some (read_entry p (get_or (lists p R s).entries i []))
     unfolding entries_in
@@ -135,6 +158,10 @@ module _ (p : Profile) (R : ℕ) (s : List ℕ) (b : LaidStore p R s) where
 
     pub entry-within : (count : ℕ) → count ≡ count_at entries_count 4 s → i < count → i < length (lists p R s).entries
     entry-within count ec h = omega (arith, area-count p R s Entries)
+
+    pub entry_wide : i < length (lists p R s).entries → (rec : List ℕ) → rec ≡ get_or (lists p R s).entries i [] → length rec ≡ 78
+    entry_wide h rec er =
+        ap length er ∙ record-wide p R s (held-inside p R s b) Entries (area_at p R Entries) (record_width p Entries) i refl refl h ∙ entry-width p b.coded.cells
 
     module _ (n : Name) (column : ℕ) (v : Value) (update : Bool) (key : Value) where
       pub entry_past : (count : ℕ) → count ≡ count_at entries_count 4 s → count ≤ i → false ≡ other_at (entries_in p R s) i n column v update key
@@ -144,124 +171,25 @@ module _ (p : Profile) (R : ℕ) (s : List ℕ) (b : LaidStore p R s) where
 
       module _ (h : i < length (lists p R s).entries) (rec : List ℕ) (er : rec ≡ get_or (lists p R s).entries i [])
           (x : Bool) (ex : x ≡ bytes_of_value rec n column v) where
-        at_entry : other_at (entries_in p R s) i n column v update key ≡ (x && not (update && same (read_value (drop (name_width + 1 + p.cell) rec)) key))
+        pub at_entry : other_at (entries_in p R s) i n column v update key ≡ (x && not (update && same (read_value (drop (name_width + 1 + p.cell) rec)) key))
         unfolding other_at maybe bytes_of_value read_entry
         at_entry = rw (entry_at h, ← er, ← ex)
 
-        pub entry-outside : not x ≡ true → false ≡ other_at (entries_in p R s) i n column v update key
-        entry-outside f = rw (at_entry, not-true x f)
-
-        module _ (f : not x ≡ false) where
-          pub entry-counts : not update ≡ true → true ≡ other_at (entries_in p R s) i n column v update key
-          entry-counts u = rw (at_entry, not-false x f, not-true update u)
-
-          pub entry_other : not update ≡ false → (k : Value) → k ≡ read_value (take (length rec - 52) (drop 52 rec)) → (y : Bool) → y ≡ same k key
-              → not y ≡ other_at (entries_in p R s) i n column v update key
-          entry_other u k ek y ey = rw (at_entry, not-false x f, not-false update u, ey, ek, rest 52 rec, b.coded.cells)
-
 -- ---- an entry's record
 
-module _ (rec : List ℕ) (n : Name) (i : ℕ) (v : Value) (o : Ordering) (eo : o ≡ cmp_named rec n) where
-  pub other_name : compare_is_eq o ≡ false → false ≡ bytes_of_value rec n i v
-  unfolding bytes_of_value cmp_named
-  other_name h = rw (← eo, h)
-
-  module _ (h : compare_is_eq o ≡ true) where
-    pub other-column : (get_or rec name_width 0 ≡ i → ⊥) → false ≡ bytes_of_value rec n i v
-    unfolding bytes_of_value cmp_named
-    other-column d = rw (← eo, h, ne_eqb (get_or rec name_width 0) i d)
-
-    pub value-decides : get_or rec name_width 0 ≡ i → (w : Value) → w ≡ read_value (take (length rec - 26) (drop 26 rec)) → (r : Bool) → r ≡ same w v → r ≡ bytes_of_value rec n i v
-    unfolding bytes_of_value cmp_named
-    value-decides d w ew r er = rw (← eo, h, eq-eqb (get_or rec name_width 0) i d, er, ew, rest 26 rec)
-
--- ---- 30
-
-module _ (rs : List Row) (t : Table) (key : Value) (b : Bool) (n : Name) (v : Value) where
-  pub not-referring : not b ≡ true → false ≡ missing rs t key (only_if b n) v
-  not-referring h = rw (not-true b h)
-
-  module _ (h : not b ≡ false) where
-    pub null-refers : is_null v ≡ true → false ≡ missing rs t key (only_if b n) v
-    null-refers z = rw (not-false b h, z)
-
-    module _ (z : is_null v ≡ false) (x : Bool) (e : x ≡ (same_name n t.name && same v key)) where
-      pub itself-refers : x ≡ true → false ≡ missing rs t key (only_if b n) v
-      itself-refers f = rw (not-false b h, z, ← e, f)
-
-      pub target-tells : x ≡ false → (r : Bool) → r ≡ has_row rs n v → not r ≡ missing rs t key (only_if b n) v
-      target-tells f r g = rw (not-false b h, z, ← e, f, g)
-
--- only the table's name is looked at
-missing-named : (rs : List Row) (n : Name) (k : ℕ) (key : Value) (o : Option Name) (v : Value) → missing rs (table_with n 0) key o v ≡ missing rs (table_with n k) key o v
-missing-named rs n k key none v = refl
-missing-named rs n k key (some m) v = refl
-
--- ---- 31
-
-module _ (rs : List Row) (t : Table) (update : Bool) (key : Value) (i : ℕ) (c : Column) (v : Value) where
-  pub not-unique : not c.unique ≡ true → false ≡ exists rs t update key i c v
-  not-unique h = rw (not-true c.unique h)
-
-  module _ (u : not c.unique ≡ false) where
-    pub key-exempt : i ≡ t.key → false ≡ exists rs t update key i c v
-    key-exempt e = rw (not-false c.unique u, eq-eqb i t.key e)
-
-    module _ (e : i ≡ t.key → ⊥) where
-      pub undefined-exempt : is_undefined v ≡ true → false ≡ exists rs t update key i c v
-      undefined-exempt z = rw (not-false c.unique u, ne_eqb i t.key e, z)
-
-      pub taken-decides : is_undefined v ≡ false → (r : Bool) → r ≡ taken rs t update key i v → r ≡ exists rs t update key i c v
-      taken-decides z r g = rw (not-false c.unique u, ne_eqb i t.key e, z) g
-
--- ---- 28, 29
-
-module _ (c : Column) (v : Value) where
-  pub null-refused : is_null v ≡ true → not c.nullable ≡ true → NullNotAllowed ≡ kind_of_fault (kind_fault c v)
-  unfolding kind_fault first
-  null-refused z n = rw (z, n)
-
-  pub null-fit : is_null v ≡ true → not c.nullable ≡ false → Accepted ≡ kind_of_fault (kind_fault c v)
-  unfolding kind_fault first
-  null-fit z n = rw (z, n)
-
-  pub kind-other : is_null v ≡ false → (kind_of v ≡ c.kind → ⊥) → WrongKind ≡ kind_of_fault (kind_fault c v)
-  unfolding kind_fault first
-  kind-other z k = rw (z, ne_eqb (kind_of v) c.kind k)
-
-  pub kind-fit : is_null v ≡ false → kind_of v ≡ c.kind → Accepted ≡ kind_of_fault (kind_fault c v)
-  unfolding kind_fault first
-  kind-fit z k = rw (z, eq-eqb (kind_of v) c.kind k)
-
-  kind-told : Told (kind_fault c v)
-  unfolding kind_fault
-  kind-told = told _ (refl, (refl, tt))
+pub record_parts : (rec : List ℕ) (n : Name) (i : ℕ) (v : Value)
+    → bytes_of_value rec n i v ≡ (compare_is_eq (cmp_named rec n) && (eqb (get_or rec name_width 0) i && same (read_value (take (length rec - 26) (drop 26 rec))) v))
+unfolding bytes_of_value cmp_named
+record_parts rec n i v = rw (rest 26 rec)
 
 -- ---- 28 to 31
 
-module _ (rs : List Row) (n : Name) (k : ℕ) (update : Bool) (key : Value) (i : ℕ) (c : Column) (v : Value) (f : Refusal) (ef : f ≡ kind_of_fault (kind_fault c v)) where
-  in_two : cell_fault rs (table_with n k) update key i c v
-      ≡ kind_fault c v or_else first ((TargetMissing, missing rs (table_with n k) key c.reference v) ∷ (ValueExists, exists rs (table_with n k) update key i c v) ∷ [])
-  unfolding cell_fault kind_fault
-  in_two = first-append ((WrongKind, _) ∷ (NullNotAllowed, _) ∷ []) _
+-- only the table's name is looked at
+pub missing_named : (rs : List Row) (n : Name) (k : ℕ) (key : Value) (o : Option Name) (v : Value) → missing rs (table_with n 0) key o v ≡ missing rs (table_with n k) key o v
+missing_named rs n k key none v = refl
+missing_named rs n k key (some m) v = refl
 
-  pub kind-refuses : eqb (number_of f) 0 ≡ false → f ≡ kind_of_fault (cell_fault rs (table_with n k) update key i c v)
-  kind-refuses h = rw in_two (first-refuses f (kind_fault c v) _ ef h)
-
-  module _ (h : eqb (number_of f) 0 ≡ true) (m : Bool) (em : m ≡ missing rs (table_with n 0) key c.reference v) where
-    past-kind : cell_fault rs (table_with n k) update key i c v ≡ first ((TargetMissing, m) ∷ (ValueExists, exists rs (table_with n k) update key i c v) ∷ [])
-    unfolding ◌or_else◌
-    past-kind = rw (in_two, first_passes f (kind_fault c v) ef (kind-told c v) h, em, missing-named rs n k key c.reference v)
-
-    pub target-refuses : m ≡ true → TargetMissing ≡ kind_of_fault (cell_fault rs (table_with n k) update key i c v)
-    unfolding first
-    target-refuses g = rw (past-kind, g)
-
-    module _ (g : m ≡ false) (x : Bool) (ex : x ≡ exists rs (table_with n k) update key i c v) where
-      pub value-refuses : x ≡ true → ValueExists ≡ kind_of_fault (cell_fault rs (table_with n k) update key i c v)
-      unfolding first
-      value-refuses y = rw (past-kind, g, ← ex, y)
-
-      pub cell-fit : x ≡ false → Accepted ≡ kind_of_fault (cell_fault rs (table_with n k) update key i c v)
-      unfolding first
-      cell-fit y = rw (past-kind, g, ← ex, y)
+-- 28 or 29 is the first
+pub kind-refuses : (rs : List Row) (t : Table) (update : Bool) (key : Value) (i : ℕ) (c : Column) (v : Value) (k : Refusal) → some k ≡ kind_fault c v → some k ≡ cell_fault rs t update key i c v
+unfolding cell_fault kind_fault
+kind-refuses rs t update key i c v k e = or-first k (kind_fault c v) _ e ∙ sym (first-append ((WrongKind, _) ∷ (NullNotAllowed, _) ∷ []) _)

@@ -1,18 +1,16 @@
 -- A row against its table: the faults from a column on as the code's loop goes, the place, and all in 01's order.
 -- Assumes nothing.
-use mathlib.Core.Path.{◌≡◌, refl, sym, ap, ◌∙◌, subst}
+use mathlib.Core.Path.{◌≡◌, refl, sym, ap, ◌∙◌}
 use mathlib.Core.Bool.{Bool, true, false, not, ◌&&◌, true≢false}
 use mathlib.Core.Option
 use mathlib.Core.Option.{Option, none, some, some-injective}
-use Prim.Native.Nat.{ℕ, suc, ◌+◌, ◌≤◌, ◌<◌}
+use Prim.Native.Nat.{ℕ, ◌+◌, ◌≤◌, ◌<◌}
 use native.Mathlib.Nat.{zero-add}
 use native.Mathlib.Numerals.{add-one}
 use native.Mathlib.Omega.{arith}
-use mathlib.Core.List.{List, [], ◌∷◌, map}
+use mathlib.Core.List.{List, [], ◌∷◌}
 use lib.Dec.{eqb}
-use lib.ListN.{length, take, drop, get_or, drop_of_length-le}
-use borrow.Author.Tests.{le-leb, lt-leb}
-use lib.Seq.{get_or-take, length-take-le}
+use lib.ListN.{length, drop, get_or, drop_of_length-le}
 use Rattle.values.specs.Basic.{nth, or_default, maybe, ◌or_else◌}
 use Rattle.values.specs.Value.{Value, null, is_undefined}
 use Rattle.values.specs.Cell.{name_width, read_name}
@@ -20,9 +18,8 @@ use Rattle.values.specs.Meaning.{held, Proper, ProperCell}
 use Rattle.areas.specs.Sorted.{In}
 use Rattle.values.specs.declared.value.Cell.{Cell}
 use Rattle.rules.specs.declared.profile.Profile.{Profile}
-use Rattle.rules.specs.declared.answer.Refusal.{Refusal}
-use Rattle.rules.specs.declared.answer.Refusal.TheVariants.{Accepted, KeyUndefined, KeyExists, RowsFull, RowAbsent}
-use Rattle.rules.specs.Refusal.{number_of}
+use Rattle.rules.specs.Refusal.{Refusal}
+use Rattle.rules.specs.Refusal.{KeyUndefined, KeyExists}
 use Rattle.rules.specs.State as S
 use Rattle.rules.specs.State.{Name, Column, Table, State, table_named, has_row, cell_at, key_of}
 use Rattle.rules.specs.Layout.{lists, Schemas, read_table, parse, unknown}
@@ -32,19 +29,17 @@ use Rattle.rules.proofs.Tests.{and-false, first-none, or_else-none}
 use Rattle.rules.proofs.Lists.{nth_in}
 use Rattle.rules.proofs.Catalog.{stored-named}
 use Rattle.rules.proofs.Room.{column-passes}
-use Rattle.laid.specs.declared.row.Row.{Row}
 use Rattle.laid.specs.Store.{LaidStore}
 use Rattle.laid.specs.Column.{column_at}
 use Rattle.laid.specs.Catalog.{TableBytes}
-use Rattle.checks.specs.Faults.{kind_of_fault}
 use Rattle.laid.specs.Row.{cells_of, table_in, KeyColumn, FullRow}
 use Rattle.checks.specs.Asked.{table_with, UniqueIndexed, place_fault}
 use Rattle.laid.proofs.Inside.{area-count}
 use Rattle.laid.proofs.Stores.{held-state, held-catalog}
-use Rattle.laid.proofs.Finding.{drop_nth, nth-map, nth-get_or, nth-take, all-nth}
+use Rattle.laid.proofs.Finding.{drop_nth, nth-map, nth-get_or, all-nth}
 use Rattle.laid.proofs.Columns.{columns_of, name-read, key-byte, columns-few, column-nth, column-drop}
 use Rattle.laid.proofs.Searching.{tables-count, table_at, table-bytes-at}
-use Rattle.checks.proofs.Faulting.{Told, told, or-told, first-refuses, first_passes}
+use Rattle.checks.proofs.Faulting.{or-first, or-second}
 use Rattle.checks.proofs.Checking.{key_below}
 
 -- ---- a unique column other than the key is indexed
@@ -77,24 +72,10 @@ cell-of : (rs : List S.Row) (t : Table) (update : Bool) (key : Value) (i : ℕ) 
 unfolding cell_fault
 cell-of rs t update key i c v = rw (missing-of rs t key c.reference v)
 
-cell-told : (rs : List S.Row) (t : Table) (update : Bool) (key : Value) (i : ℕ) (c : Column) (v : Value) → Told (cell_fault rs t update key i c v)
-unfolding cell_fault
-cell-told rs t update key i c v = told _ (refl, (refl, (refl, (refl, tt))))
-
-pub cells_told : (rs : List S.Row) (t : Table) (update : Bool) (key : Value) (i : ℕ) (cs : List Column) (vs : List Value) → Told (cells_fault rs t update key i cs vs)
-unfolding cells_fault
-cells_told rs t update key i [] vs = refl
-cells_told rs t update key i (c ∷ cs) [] = refl
-cells_told rs t update key i (c ∷ cs) (v ∷ vs) = or-told (cell_fault rs t update key i c v) _ (cell-told rs t update key i c v) (cells_told rs t update key (suc i) cs vs)
-
 module _ (p : Profile) (R : ℕ) (s : List ℕ) (t : ℕ) where
-  -- the values of a row that fills the table
-  unfoldable pub filling : List Cell → List Value
-  filling cells = map held (take (length (table_in p R s t).columns) cells)
-
   unfoldable pub faults_on : Bool → List Cell → ℕ → Option Refusal
-  faults_on update cells j =
-      cells_fault (parse p R s).rows (table_in p R s t) update (key_of (table_in p R s t) (filling cells)) j (drop j (table_in p R s t).columns) (drop j (filling cells))
+  faults_on update row j =
+      cells_fault (parse p R s).rows (table_in p R s t) update (key_of (table_in p R s t) (cells_of row)) j (drop j (table_in p R s t).columns) (drop j (cells_of row))
 
   module _ (b : LaidStore p R s) (h : t < length (parse p R s).tables) where
     pub schema-within : t < length (lists p R s).schemas
@@ -140,111 +121,73 @@ module _ (p : Profile) (R : ℕ) (s : List ℕ) (t : ℕ) where
           (unique-indexed ts T j (column_at p rec j) passes (ap (λ (x : Column). x.unique) (sym ec) ∙ u) (ap (eqb j) (sym (ea ∙ key-byte p rec)) ∙ k))
 
       -- a row that fills it
-      module _ (row : Row) (f : FullRow p R s t row) where
-        count-columns : row.count ≡ length (columns_of p rec)
+      module _ (row : List Cell) (f : FullRow p R s t row) where
+        pub count-columns : length row ≡ length (columns_of p rec)
         count-columns = f.full ∙ ap (λ (x : Table). length x.columns) table_is
 
-        pub few-columns-8 : length (columns_of p rec) ≤ 8
-        few-columns-8 = omega (arith, f.proper.most, count-columns)
-
-        pub cells_are : cells_of row ≡ filling row.cells
-        unfolding cells_of filling
-        cells_are = ap (λ (n : ℕ). map held (take n row.cells)) f.full
-
         module _ (j : ℕ) (l : j < length (columns_of p rec)) (d : Cell) where
-          pub cell-proper : Proper (get_or row.cells j d).value
-          cell-proper =
-              subst ProperCell (get_or-take row.count row.cells j d (omega (arith, count-columns)))
-              (all-nth ProperCell (take row.count row.cells) j d f.proper.proper (rw (length-take-le row.count row.cells f.proper.few) (omega (arith, count-columns))))
+          pub cell-proper : Proper (get_or row j d).value
+          cell-proper = all-nth ProperCell row j d f.proper.proper (omega (arith, count-columns))
 
-          pub cell-nth : nth (filling row.cells) j ≡ some (held (get_or row.cells j d))
-          unfolding filling
-          cell-nth =
-              nth-map held (take (length (table_in p R s t).columns) row.cells) j
-              ∙ ap (Option.map held)
-              (nth-take row.cells (length (table_in p R s t).columns) j (omega (arith, f.full, count-columns))
-              ∙ nth-get_or row.cells j d (omega (arith, f.proper.few, count-columns)))
+          pub cell-nth : nth (cells_of row) j ≡ some (held (get_or row j d))
+          unfolding cells_of
+          cell-nth = nth-map held row j ∙ ap (Option.map held) (nth-get_or row j d (omega (arith, count-columns)))
 
-        pub key-cell : (at : ℕ) → at ≡ get_or rec name_width 0 → (d : Cell) → held (get_or row.cells at d) ≡ key_of (table_in p R s t) (filling row.cells)
-        key-cell at ea d =
+        pub key-is : (at : ℕ) → at ≡ get_or rec name_width 0 → (d : Cell) → held (get_or row at d) ≡ key_of (table_in p R s t) (cells_of row)
+        key-is at ea d =
             sym
-            (ap (λ (x : Table). cell_at (filling row.cells) x.key) table_is
-            ∙ ap (cell_at (filling row.cells)) (sym (ea ∙ key-byte p rec))
+            (ap (λ (x : Table). cell_at (cells_of row) x.key) table_is
+            ∙ ap (cell_at (cells_of row)) (sym (ea ∙ key-byte p rec))
             ∙ ap (λ (o : Option Value). or_default o null) (cell-nth at (key-within-columns at ea) d))
 
-        pub key-is : (at : ℕ) → at ≡ get_or rec name_width 0 → (d : Cell) → held (get_or row.cells at d) ≡ key_of (table_in p R s t) (cells_of row)
-        key-is at ea d = key-cell at ea d ∙ ap (key_of (table_in p R s t)) (sym cells_are)
-
-        pub stored_is : (n : Name) → n ≡ read_name rec → (at : ℕ) → at ≡ get_or rec name_width 0 → (d : Cell) (x : Bool) → x ≡ has_row (parse p R s).rows n (held (get_or row.cells at d))
+        pub stored_is : (n : Name) → n ≡ read_name rec → (at : ℕ) → at ≡ get_or rec name_width 0 → (d : Cell) (x : Bool) → x ≡ has_row (parse p R s).rows n (held (get_or row at d))
             → x ≡ has_row (parse p R s).rows (table_in p R s t).name (key_of (table_in p R s t) (cells_of row))
         stored_is n en at ea d x ex =
             ex
-            ∙ ap (λ (m : Name). has_row (parse p R s).rows m (held (get_or row.cells at d))) (en ∙ name-read p rec ∙ ap (λ (x : Table). x.name) (sym table_is))
+            ∙ ap (λ (m : Name). has_row (parse p R s).rows m (held (get_or row at d))) (en ∙ name-read p rec ∙ ap (λ (x : Table). x.name) (sym table_is))
             ∙ ap (has_row (parse p R s).rows (table_in p R s t).name) (key-is at ea d)
 
         -- ---- column by column
 
         module _ (update : Bool) where
           pub faults-whole : cells_fault (parse p R s).rows (table_in p R s t) update (key_of (table_in p R s t) (cells_of row)) 0 (table_in p R s t).columns (cells_of row)
-              ≡ faults_on update row.cells 0
+              ≡ faults_on update row 0
           unfolding faults_on
-          faults-whole = rw cells_are
+          faults-whole = refl
 
-          none-on : (j : ℕ) → length (columns_of p rec) ≤ j → faults_on update row.cells j ≡ none
+          none-on : (j : ℕ) → length (columns_of p rec) ≤ j → faults_on update row j ≡ none
           unfolding faults_on cells_fault
           none-on j l = let n : drop j (columns_of p rec) ≡ [] = drop_of_length-le (columns_of p rec) l in rw (table_is, n)
 
-          pub faults-over : (j : ℕ) → length (columns_of p rec) ≤ j → faults_on update row.cells j ≡ faults_on update row.cells 0
-              → Accepted ≡ kind_of_fault (cells_fault (parse p R s).rows (table_in p R s t) update (key_of (table_in p R s t) (cells_of row)) 0 (table_in p R s t).columns (cells_of row))
-          faults-over j l e = ap kind_of_fault (sym (none-on j l) ∙ e ∙ sym faults-whole)
+          pub faults-over : (j : ℕ) → length (columns_of p rec) ≤ j → faults_on update row j ≡ faults_on update row 0
+              → none ≡ cells_fault (parse p R s).rows (table_in p R s t) update (key_of (table_in p R s t) (cells_of row)) 0 (table_in p R s t).columns (cells_of row)
+          faults-over j l e = sym (none-on j l) ∙ e ∙ sym faults-whole
 
-          module _ (n : Name) (en : n ≡ read_name rec) (at : ℕ) (ea : at ≡ get_or rec name_width 0) (d : Cell) (j : ℕ) (l : j < length (columns_of p rec)) (c : Column) (ec : c ≡ column_at p rec j)
-              (k : Refusal) (ek : k ≡ kind_of_fault (cell_fault (parse p R s).rows (table_with n at) update (held (get_or row.cells at d)) j c (held (get_or row.cells j d)))) where
+          module _ (n : Name) (en : n ≡ read_name rec) (at : ℕ) (ea : at ≡ get_or rec name_width 0) (d : Cell) (j : ℕ) (l : j < length (columns_of p rec)) (c : Column) (ec : c ≡ column_at p rec j) where
             abbrev here : Option Refusal
-            here = cell_fault (parse p R s).rows (table_with n at) update (held (get_or row.cells at d)) j c (held (get_or row.cells j d))
+            here = cell_fault (parse p R s).rows (table_with n at) update (held (get_or row at d)) j c (held (get_or row j d))
 
-            faults-next : faults_on update row.cells j ≡ here or_else faults_on update row.cells (j + 1)
+            faults-next : faults_on update row j ≡ here or_else faults_on update row (j + 1)
             unfolding faults_on cells_fault
             faults-next =
                 rw (
                   add-one,
-                  key-cell at ea d,
+                  key-is at ea d,
                   en ∙ name-read p rec,
                   ea ∙ key-byte p rec,
                   ec,
-                  drop_nth (filling row.cells) j (held (get_or row.cells j d)) (cell-nth j l d),
+                  drop_nth (cells_of row) j (held (get_or row j d)) (cell-nth j l d),
                   table_is,
                   column-drop p rec rec-bytes j l,
                   cell-of (parse p R s).rows (read_table p rec),
                 )
 
-            pub fault-found : eqb (number_of k) 0 ≡ false → faults_on update row.cells j ≡ faults_on update row.cells 0
-                → k ≡ kind_of_fault (cells_fault (parse p R s).rows (table_in p R s t) update (key_of (table_in p R s t) (cells_of row)) 0 (table_in p R s t).columns (cells_of row))
-            fault-found g e = first-refuses k here (faults_on update row.cells (j + 1)) ek g ∙ ap kind_of_fault (sym faults-next ∙ e ∙ sym faults-whole)
+            pub fault-found : (k : Refusal) → some k ≡ here → faults_on update row j ≡ faults_on update row 0
+                → some k ≡ cells_fault (parse p R s).rows (table_in p R s t) update (key_of (table_in p R s t) (cells_of row)) 0 (table_in p R s t).columns (cells_of row)
+            fault-found k g e = or-first k here _ g ∙ sym faults-next ∙ e ∙ sym faults-whole
 
-            pub fault-none : eqb (number_of k) 0 ≡ true → faults_on update row.cells j ≡ faults_on update row.cells 0 → faults_on update row.cells (j + 1) ≡ faults_on update row.cells 0
-            unfolding ◌or_else◌
-            fault-none g e =
-                ap (λ (o : Option Refusal). o or_else faults_on update row.cells (j + 1)) (sym (first_passes k here ek (cell-told (parse p R s).rows (table_with n at) update _ j c _) g)) ∙ sym faults-next ∙ e
-
--- ---- 34, 33
-
-module _ (R : ℕ) (rs : List S.Row) (stored update : Bool) where
-  pub row-absent : update ≡ true → not stored ≡ true → RowAbsent ≡ kind_of_fault (place_fault R rs stored update)
-  unfolding place_fault first
-  row-absent u n = rw (u, n)
-
-  pub update-fits : update ≡ true → not stored ≡ false → Accepted ≡ kind_of_fault (place_fault R rs stored update)
-  unfolding place_fault first
-  update-fits u n = rw (u, n)
-
-  pub rows-full : update ≡ false → R ≤ length rs → RowsFull ≡ kind_of_fault (place_fault R rs stored update)
-  unfolding place_fault first
-  rows-full u l = rw (u, le-leb R (length rs) l)
-
-  pub insert-fits : update ≡ false → length rs < R → Accepted ≡ kind_of_fault (place_fault R rs stored update)
-  unfolding place_fault first
-  insert-fits u l = rw (u, lt-leb R (length rs) l)
+            pub fault-none : none ≡ here → faults_on update row j ≡ faults_on update row 0 → faults_on update row (j + 1) ≡ faults_on update row 0
+            fault-none g e = or-second _ here _ g refl ∙ sym faults-next ∙ e
 
 -- ---- 26, 27; each column 28 to 31; 34, 33
 
@@ -256,31 +199,22 @@ module _ (p : Profile) (R : ℕ) (st : State) (t : Table) (update : Bool) (v : L
   unfolding row_fault place_fault
   in_three = refl
 
-  pub key-undefined : is_undefined (key_of t v) ≡ true → KeyUndefined ≡ kind_of_fault (row_fault p R st t update v)
+  pub key-undefined : is_undefined (key_of t v) ≡ true → some KeyUndefined ≡ row_fault p R st t update v
   unfolding first ◌or_else◌
   key-undefined z = rw (in_three, z)
 
   module _ (z : is_undefined (key_of t v) ≡ false) (stored : Bool) (es : stored ≡ has_row st.rows t.name (key_of t v)) where
-    pub key-exists : not update ≡ true → stored ≡ true → KeyExists ≡ kind_of_fault (row_fault p R st t update v)
+    pub key-exists : not update ≡ true → stored ≡ true → some KeyExists ≡ row_fault p R st t update v
     unfolding first ◌or_else◌
     key-exists u h = rw (in_three, z, u, ← es, h)
 
-    module _ (n : (not update && stored) ≡ false) (k : Refusal) (ek : k ≡ kind_of_fault (cells_fault st.rows t update (key_of t v) 0 t.columns v)) where
+    module _ (n : (not update && stored) ≡ false) where
       past-key : row_fault p R st t update v ≡ cells_fault st.rows t update (key_of t v) 0 t.columns v or_else place_fault R st.rows stored update
       unfolding first ◌or_else◌
       past-key = rw (in_three, z, ← es, n)
 
-      pub cells-refuse : eqb (number_of k) 0 ≡ false → k ≡ kind_of_fault (row_fault p R st t update v)
-      cells-refuse g = rw past-key (first-refuses k (cells_fault st.rows t update (key_of t v) 0 t.columns v) (place_fault R st.rows stored update) ek g)
+      pub cells-refuse : (k : Refusal) → some k ≡ cells_fault st.rows t update (key_of t v) 0 t.columns v → some k ≡ row_fault p R st t update v
+      cells-refuse k e = rw past-key (or-first k _ _ e)
 
-      pub place-decides : eqb (number_of k) 0 ≡ true → (r : Refusal) → r ≡ kind_of_fault (place_fault R st.rows stored update) → r ≡ kind_of_fault (row_fault p R st t update v)
-      unfolding ◌or_else◌
-      place-decides g r e =
-          rw (past-key, first_passes k (cells_fault st.rows t update (key_of t v) 0 t.columns v) ek (cells_told st.rows t update (key_of t v) 0 t.columns v) g) e
-
--- 27 is passed
-pub key-new : (update stored : Bool) → (not update ≡ true) × (stored ≡ false) → (not update && stored) ≡ false
-key-new update stored h = rw (h.0, h.1)
-
-pub key-own : (update stored : Bool) → not update ≡ false → (not update && stored) ≡ false
-key-own update stored h = rw h
+      pub place-decides : none ≡ cells_fault st.rows t update (key_of t v) 0 t.columns v → (o : Option Refusal) → o ≡ place_fault R st.rows stored update → o ≡ row_fault p R st t update v
+      place-decides e o f = rw past-key (or-second o _ _ e f)

@@ -202,16 +202,10 @@ module _ (n : Name) (i : ℕ) (v : Value) where
 
     module _ (ts : List Table) (rs : List Row) (s : Sorted cmp_row rs) (indexed : indexed_at ts n i ≡ true)
         (es : List Entry) (ee : es ≡ index_of ts rs) (es-sorted : Sorted cmp_entry es) (j : ℕ) (ej : j ≡ rank_of es) where
-      taken-two : taken rs (table_with n 0) update key i v ≡ (at es j || at es (j + 1))
+      pub taken-two : taken rs (table_with n 0) update key i v ≡ (at es j || at es (j + 1))
       taken-two =
           taken_is ts rs s n i v indexed (table_with n 0) update key refl
           ∙ any-keep (of_other update key) (in_group n i v) (index_of ts rs)
           ∙ ap (any wanted) (sym ee)
           ∙ two-decide es es-sorted
           ∙ ap (λ (m : ℕ). at es m || at es (m + 1)) (sym ej)
-
-      pub taken-first : (a : Bool) → a ≡ at es j → a ≡ true → true ≡ taken rs (table_with n 0) update key i v
-      taken-first a ea h = sym (taken-two ∙ ap (λ (b : Bool). b || at es (j + 1)) (sym ea ∙ h))
-
-      pub taken-second : (a : Bool) → a ≡ at es j → a ≡ false → (b : Bool) → b ≡ at es (j + 1) → b ≡ taken rs (table_with n 0) update key i v
-      taken-second a ea h b eb = eb ∙ sym (taken-two ∙ ap (λ (x : Bool). x || at es (j + 1)) (sym ea ∙ h))

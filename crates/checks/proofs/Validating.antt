@@ -1,40 +1,31 @@
 -- A schema's faults as the code finds them: each column in turn from a place on, names that repeat, and the whole. Assumes nothing.
 use mathlib.Core.Path.{◌≡◌, refl, sym, ap, ◌∙◌}
-use mathlib.Core.Bool.{Bool, true, false, cond, ◌||◌, true≢false}
-use mathlib.Core.Option.{Option, none, some}
+use mathlib.Core.Bool.{Bool, true, false, cond, ◌||◌}
+use mathlib.Core.Option.{none, some}
 use Prim.Native.Nat.{ℕ, zero, suc, ◌+◌, ◌≤◌, ◌<◌, Ordering}
 use native.Mathlib.Numerals.{add-one}
 use native.Mathlib.Omega.{arith}
 use mathlib.Core.List.{List, [], ◌∷◌}
-use lib.Dec.{eqb, compare_is_eq}
+use lib.Dec.{compare_is_eq}
 use lib.ListN.{length, take, drop, get_or, drop_of_length-le, length-take, length-drop}
 use borrow.Author.Tests.{le-leb, lt-leb}
 use Rattle.values.specs.Basic.{any, ◌or_else◌, cmp_bytes}
 use Rattle.values.specs.Cell.{read_name}
 use Rattle.rules.specs.declared.profile.Profile.{Profile}
-use Rattle.rules.specs.declared.answer.Refusal.{Refusal}
-use Rattle.rules.specs.declared.answer.Refusal.TheVariants.{Accepted, EmptyTableName, NoColumns, KeyColumnOutOfRange, ColumnTwice}
-use Rattle.rules.specs.Refusal.{number_of}
+use Rattle.rules.specs.Refusal.{Refusal}
+use Rattle.rules.specs.Refusal.{EmptyTableName, NoColumns, KeyColumnOutOfRange, ColumnTwice}
 use Rattle.rules.specs.State.{Name, same_name, Column, Table}
 use Rattle.rules.specs.Layout.{read_table}
 use Rattle.rules.specs.Schema.{Fault, at, first, column_fault, columns_fault, repeat_fault, schema_fault}
-use Rattle.checks.specs.declared.schema_fault.Fault as D
 use Rattle.laid.specs.Column.{column_at, name_before}
 use Rattle.laid.specs.Catalog.{TableBytes}
-use Rattle.checks.specs.Faults.{kind_of_fault, fault_of}
 use Rattle.laid.proofs.Finding.{drop_nth, nth-take, take_nth, any_append, nil-of, not-nil}
 use Rattle.laid.proofs.Columns.{columns_of, count-byte, key-byte, record-least, column-nth, column-drop}
-use Rattle.checks.proofs.Faulting.{column-told, first_passes}
+use Rattle.checks.proofs.Faulting.{or-first, or-second}
 
 -- two columns' names, compared as they were read
 pub names-compared : (x y a b : Column) {o : Ordering} → o ≡ cmp_bytes x.name y.name → x ≡ a → y ≡ b → o ≡ cmp_bytes a.name b.name
 names-compared x y a b e f g = e ∙ ap (λ (z : Column). cmp_bytes z.name y.name) f ∙ ap (λ (z : Column). cmp_bytes a.name z.name) g
-
--- a fault that is none of the accepted
-refused : (i : ℕ) (k : Refusal) (o : Option Refusal) (r : Fault) → k ≡ kind_of_fault o → eqb (number_of k) 0 ≡ false → some (k, i) ≡ at i o or_else r
-unfolding at ◌or_else◌
-refused i k none r e n = absurd (true≢false (ap (λ (x : Refusal). eqb (number_of x) 0) (sym e) ∙ n))
-refused i k (some x) r e n = rw e
 
 module _ (p : Profile) (rec : List ℕ) where
   -- whether a column from j on and before i has the name of column i
@@ -71,7 +62,7 @@ module _ (p : Profile) (rec : List ℕ) where
   repeats-start = refl
 
   pub repeats-end : (i : ℕ) → length (columns_of p rec) ≤ i → repeats_from i ≡ repeat_fault [] 0 (columns_of p rec)
-      → fault_of (record { kind = Accepted; at = 0 }) ≡ repeat_fault [] 0 (columns_of p rec)
+      → none ≡ repeat_fault [] 0 (columns_of p rec)
   unfolding repeats_from repeat_fault
   repeats-end i h e = let n : drop i (columns_of p rec) ≡ [] = drop_of_length-le (columns_of p rec) h in rw n at e
 
@@ -80,7 +71,7 @@ module _ (p : Profile) (rec : List ℕ) where
   faults-start ts = refl
 
   pub faults-end : (ts : List Table) (i : ℕ) → length (columns_of p rec) ≤ i → faults_from ts i ≡ columns_fault ts (read_table p rec) 0 (columns_of p rec)
-      → fault_of (record { kind = Accepted; at = 0 }) ≡ columns_fault ts (read_table p rec) 0 (columns_of p rec)
+      → none ≡ columns_fault ts (read_table p rec) 0 (columns_of p rec)
   unfolding faults_from columns_fault
   faults-end ts i h e = let n : drop i (columns_of p rec) ≡ [] = drop_of_length-le (columns_of p rec) h in rw n at e
 
@@ -120,7 +111,7 @@ module _ (p : Profile) (rec : List ℕ) where
           rw (add-one, column-drop p rec b i h, seen-before (column_at p rec i).name i (omega arith))
 
       pub column-repeats : (r : Bool) → r ≡ name_before p rec i → r ≡ true → repeats_from i ≡ repeat_fault [] 0 (columns_of p rec)
-          → fault_of (record { kind = ColumnTwice; at = i }) ≡ repeat_fault [] 0 (columns_of p rec)
+          → some (ColumnTwice, i) ≡ repeat_fault [] 0 (columns_of p rec)
       column-repeats r e t g = rw (repeats-step, ← e, t) at g
 
       pub column-new : (r : Bool) → r ≡ name_before p rec i → r ≡ false → repeats_from i ≡ repeat_fault [] 0 (columns_of p rec)
@@ -130,34 +121,35 @@ module _ (p : Profile) (rec : List ℕ) where
     -- ---- 7 to 17
 
     module _ (ts : List Table) where
-      module _ (i : ℕ) (h : i < length (columns_of p rec)) (k : Refusal) (e : k ≡ kind_of_fault (column_fault ts (read_table p rec) i (column_at p rec i))) where
+      module _ (i : ℕ) (h : i < length (columns_of p rec)) where
         faults-step : faults_from ts i ≡ at i (column_fault ts (read_table p rec) i (column_at p rec i)) or_else faults_from ts (i + 1)
         unfolding faults_from columns_fault
         faults-step = rw (add-one, column-drop p rec b i h)
 
-        pub column-refused : eqb (number_of k) 0 ≡ false → faults_from ts i ≡ columns_fault ts (read_table p rec) 0 (columns_of p rec)
-            → fault_of (record { kind = k; at = i }) ≡ columns_fault ts (read_table p rec) 0 (columns_of p rec)
-        column-refused n g = rw n (refused i k (column_fault ts (read_table p rec) i (column_at p rec i)) (faults_from ts (i + 1)) e n ∙ sym faults-step ∙ g)
+        pub column-refused : (k : Refusal) → some k ≡ column_fault ts (read_table p rec) i (column_at p rec i) → faults_from ts i ≡ columns_fault ts (read_table p rec) 0 (columns_of p rec)
+            → some (k, i) ≡ columns_fault ts (read_table p rec) 0 (columns_of p rec)
+        unfolding at ◌or_else◌
+        column-refused k e g = rw (← e) at (sym faults-step ∙ g)
 
-        pub column-passed : eqb (number_of k) 0 ≡ true → faults_from ts i ≡ columns_fault ts (read_table p rec) 0 (columns_of p rec)
+        pub column-passed : none ≡ column_fault ts (read_table p rec) i (column_at p rec i) → faults_from ts i ≡ columns_fault ts (read_table p rec) 0 (columns_of p rec)
             → faults_from ts (i + 1) ≡ columns_fault ts (read_table p rec) 0 (columns_of p rec)
         unfolding at ◌or_else◌
-        column-passed n g = rw (first_passes k (column_fault ts (read_table p rec) i (column_at p rec i)) e (column-told ts (read_table p rec) i (column_at p rec i)) n) at (sym faults-step ∙ g)
+        column-passed e g = rw (← e) at (sym faults-step ∙ g)
 
     -- ---- the whole
 
     module _ (ts : List Table) where
-      pub table-unnamed : get_or rec 0 0 ≡ 0 → fault_of (record { kind = EmptyTableName; at = 0 }) ≡ schema_fault ts (read_table p rec)
+      pub table-unnamed : get_or rec 0 0 ≡ 0 → some (EmptyTableName, 0) ≡ schema_fault ts (read_table p rec)
       unfolding schema_fault first at ◌or_else◌
       table-unnamed z = rw (nil-of (read_table p rec).name (unnamed z))
 
       module _ (z : get_or rec 0 0 ≡ 0 → ⊥) where
-        pub columns-none : get_or rec 26 0 ≡ 0 → fault_of (record { kind = NoColumns; at = 0 }) ≡ schema_fault ts (read_table p rec)
+        pub columns-none : get_or rec 26 0 ≡ 0 → some (NoColumns, 0) ≡ schema_fault ts (read_table p rec)
         unfolding schema_fault first at ◌or_else◌
         columns-none n = rw (not-nil (read_table p rec).name (λ e. z (named e)), nil-of (columns_of p rec) (sym (count-byte p rec) ∙ n))
 
         module _ (n : get_or rec 26 0 ≡ 0 → ⊥) where
-          pub key-beyond : get_or rec 26 0 ≤ get_or rec 25 0 → fault_of (record { kind = KeyColumnOutOfRange; at = 0 }) ≡ schema_fault ts (read_table p rec)
+          pub key-beyond : get_or rec 26 0 ≤ get_or rec 25 0 → some (KeyColumnOutOfRange, 0) ≡ schema_fault ts (read_table p rec)
           unfolding schema_fault first at ◌or_else◌
           key-beyond l =
               rw (
@@ -166,7 +158,7 @@ module _ (p : Profile) (rec : List ℕ) where
                 le-leb (length (columns_of p rec)) (read_table p rec).key (omega (arith, count-byte p rec, key-byte p rec)),
               )
 
-          module _ (l : get_or rec 25 0 < get_or rec 26 0) (f : D.Fault) (e : fault_of f ≡ columns_fault ts (read_table p rec) 0 (columns_of p rec)) where
+          module _ (l : get_or rec 25 0 < get_or rec 26 0) where
             past-table : schema_fault ts (read_table p rec) ≡ columns_fault ts (read_table p rec) 0 (columns_of p rec) or_else repeat_fault [] 0 (columns_of p rec)
             unfolding schema_fault first at ◌or_else◌
             past-table =
@@ -176,10 +168,8 @@ module _ (p : Profile) (rec : List ℕ) where
                   lt-leb (length (columns_of p rec)) (read_table p rec).key (omega (arith, count-byte p rec, key-byte p rec)),
                 )
 
-            pub columns-refuse : eqb (number_of f.kind) 0 ≡ false → fault_of f ≡ schema_fault ts (read_table p rec)
-            unfolding ◌or_else◌
-            columns-refuse h = rw (past-table, ← e, h)
+            pub columns-refuse : (x : Refusal × ℕ) → some x ≡ columns_fault ts (read_table p rec) 0 (columns_of p rec) → some x ≡ schema_fault ts (read_table p rec)
+            columns-refuse x e = rw past-table (or-first x _ _ e)
 
-            pub repeats-decide : eqb (number_of f.kind) 0 ≡ true → (g : D.Fault) → fault_of g ≡ repeat_fault [] 0 (columns_of p rec) → fault_of g ≡ schema_fault ts (read_table p rec)
-            unfolding ◌or_else◌
-            repeats-decide h g d = rw (past-table, ← e, h) d
+            pub repeats-decide : none ≡ columns_fault ts (read_table p rec) 0 (columns_of p rec) → (o : Fault) → o ≡ repeat_fault [] 0 (columns_of p rec) → o ≡ schema_fault ts (read_table p rec)
+            repeats-decide e o f = rw past-table (or-second o _ _ e f)

@@ -4,8 +4,8 @@ use Rattle.std.proofs.Math.Option.{Option, map}
 use Rattle.values.specs.Basic.{nth, or_default, maybe}
 use Rattle.values.specs.Value.{Value, is_null, same}
 use Rattle.values.specs.Cell.{name_width, read_name, read_value}
-use Rattle.rules.specs.declared.answer.Refusal.{Refusal}
-use Rattle.rules.specs.declared.answer.Refusal.TheVariants.{WrongKind, NullNotAllowed, RowAbsent, RowsFull}
+use Rattle.rules.specs.Refusal.{Refusal}
+use Rattle.rules.specs.Refusal.{WrongKind, NullNotAllowed, RowAbsent, RowsFull}
 use Rattle.rules.specs.State.{Name, same_name, Column, Table, Row}
 use Rattle.rules.specs.Index.{Entry, columns_of}
 use Rattle.rules.specs.Schema.{first, other_kind}

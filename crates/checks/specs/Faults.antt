@@ -1,12 +1,14 @@
 -- The faults of a column in the three parts that the code asks them in: 7 to 10, 11 to 13, 14 to 17; and what the code's answers say. Assumes nothing.
-use Rattle.std.specs.Prelude.{Bool, not, ◌&&◌, cond, List, [], ◌∷◌, eqb}
+use Rattle.std.specs.Prelude.{Bool, not, ◌&&◌, List, [], ◌∷◌}
 use Rattle.std.proofs.Math.Option.{Option, none, some}
 use Rattle.values.specs.Basic.{is_nil, is_none, is_some}
-use Rattle.rules.specs.declared.answer.Refusal.{Refusal}
-use Rattle.rules.specs.declared.answer.Refusal.TheVariants.{EmptyColumnName, KeyNullable, KeyNotUnique, KeyIndexed, NullableWithoutDefault, NullDefault, DefaultKind, UniqueNotIndexed, ReferenceNotIndexed, UnknownTarget, TargetKind, Accepted}
+use Rattle.rules.specs.Refusal.{Refusal}
+use Rattle.rules.specs.Refusal.{EmptyColumnName, KeyNullable, KeyNotUnique, KeyIndexed, NullableWithoutDefault, NullDefault, DefaultKind, UniqueNotIndexed, ReferenceNotIndexed, UnknownTarget, TargetKind, refusal_of}
 use Rattle.rules.specs.State.{Column, Table}
 use Rattle.rules.specs.Schema.{first, target_kind, null_default, default_of_other_kind, no_target, target_of_other_kind, Fault}
-use Rattle.rules.specs.Refusal.{number_of}
+use Rattle.std.specs.declared.result.Result.{Result}
+use Rattle.std.specs.declared.result.Result.TheVariants.{Ok, Err}
+use Rattle.rules.specs.declared.answer.Refusal as R
 use Rattle.checks.specs.declared.schema_fault.Fault as D
 
 unfoldable pub key_fault : Bool → Column → Option Refusal
@@ -37,9 +39,10 @@ reference_fault ts t key c =
 
 -- ---- faults as the code answers them
 
-abbrev pub kind_of_fault : Option Refusal → Refusal
-kind_of_fault none = Accepted
-kind_of_fault (some k) = k
+abbrev pub broken_rule : Result Unit R.Refusal → Option Refusal
+broken_rule (Ok u) = none
+broken_rule (Err k) = some (refusal_of k)
 
-abbrev pub fault_of : D.Fault → Fault
-fault_of f = cond (eqb (number_of f.kind) 0) none (some (f.kind, f.at))
+abbrev pub fault_of : Result Unit D.Fault → Fault
+fault_of (Ok u) = none
+fault_of (Err f) = some (refusal_of f.kind, f.at)

@@ -1,35 +1,49 @@
-// Keys as they stand in a request's bytes: read in place by the cursor, nothing is copied out.
+// Values as they stand in a request's bytes: read in place by the cursor, nothing is copied out.
 ghost use Rattle.std.specs.Prelude.{◌≡◌};
+ghost use Rattle.std.specs.Iterator.{item_count};
 ghost use Rattle.values.specs.Value.{among};
 ghost use Rattle.values.specs.Meaning.{meaning, Proper};
-ghost use Rattle.checks.specs.Keys.{values_from};
+ghost use Rattle.checks.specs.Keys.{values_of, FirstValue};
 
 use super::row_fault;
 use forms::read;
-use forms::read::ReadCell;
-use values::value::Value;
+use values::value::{Cell, Value};
 
-// Whether a value is among the `count` values from `at` on.
-pub fn is_among(rec: &[u8], at: usize, count: usize, v: Value) -> bool
-    requires { Proper v }
-    ensures { result ≡ among (meaning v) (values_from rec.now count at) }
-{
-    let mut left = count;
-    let mut next = at;
-    while 0 < left {
-        match read::value_at(rec, next) {
-            ReadCell::Got { cell, next: end } => {
-                let w = cell.value;
-                if row_fault::is_same(v, w) {
-                    return true;
-                }
-                next = end;
-            }
-            ReadCell::Broken(_) => {
-                return false;
-            }
+// The values from a position of a record on: so many, or as many as can be read.
+#[derive(Clone, Copy)]
+pub struct Values<'a> {
+    pub bytes: &'a [u8],
+    pub at: usize,
+    pub count: usize,
+}
+
+impl<'a> Iterator for Values<'a> {
+    type Item = Cell;
+
+    ghost next_gives = { FirstValue };
+
+    ghost remaining = { item_count values_of };
+
+    fn next(&mut self) -> Option<Cell> {
+        if self.count == 0 {
+            return None;
         }
-        left -= 1;
+        let (cell, end) = read::value_at(self.bytes, self.at).ok()?;
+        self.at = end;
+        self.count -= 1;
+        Some(cell)
+    }
+}
+
+// Whether a value is among those.
+pub fn is_among(values: Values<'_>, v: Value) -> bool
+    requires { Proper v }
+    ensures { result ≡ among (meaning v) (values_of values.entry) }
+{
+    for cell in values {
+        if row_fault::is_same(v, cell.value) {
+            return true;
+        }
     }
     false
 }

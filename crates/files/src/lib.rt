@@ -35,16 +35,9 @@ pub fn hold_standard(rt: &impl Files<File = File>) -> Held {
 }
 
 fn hold(rt: &impl Files<File = File>) -> Option<File> {
-    match File::open(rt, "/") {
-        Ok(folder) => {
-            if folder.as_raw_fd() <= LAST {
-                Some(folder)
-            } else {
-                None
-            }
-        }
-        Err(_) => None,
-    }
+    File::open(rt, "/")
+        .ok()
+        .filter(|folder| folder.as_raw_fd() <= LAST)
 }
 
 // The names that a program is given, without its own.
@@ -64,10 +57,9 @@ pub fn no_names(e: io::Error) -> &'static str {
 
 // Whether the first argument asks for help.
 pub fn asks_help(names: &[String]) -> bool {
-    match names.first() {
-        Some(name) => name.as_str() == "-h" || name.as_str() == "--help",
-        None => false,
-    }
+    names
+        .first()
+        .is_some_and(|name| name.as_str() == "-h" || name.as_str() == "--help")
 }
 
 // The most bytes that a name has.

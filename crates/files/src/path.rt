@@ -22,26 +22,11 @@ fn name_at(path: &str) -> usize
 // Opens the folder that a file stands in; none is open once the cause is said.
 pub fn open_folder<R: Files + Eprint>(rt: &R, path: &str) -> Option<R::File> {
     let n = name_at(path);
-    if n == 0 {
-        return open_named(rt, ".");
-    }
-    open_named(rt, &path[..n])
-}
-
-fn open_named<R: Files + Eprint>(rt: &R, folder: &str) -> Option<R::File> {
-    match File::open(rt, folder) {
-        Ok(file) => Some(file),
-        Err(e) => {
-            say::complain(rt, folder, e);
-            None
-        }
-    }
+    let folder = if n == 0 { "." } else { &path[..n] };
+    say::or_complain(rt, folder, File::open(rt, folder))
 }
 
 // Whether a name is that of a link to a file.
 pub fn is_link(rt: &impl Files, path: &str) -> bool {
-    match fs::symlink_metadata(rt, path) {
-        Ok(found) => found.is_symlink(),
-        Err(_) => false,
-    }
+    fs::symlink_metadata(rt, path).is_ok_and(|found| found.is_symlink())
 }

@@ -2,10 +2,13 @@
 use mathlib.Core.Path.{◌≡◌, refl, sym, ap, ◌∙◌, subst}
 use mathlib.Core.List.{List, [], ◌∷◌, ◌++◌, append-nil}
 use Prim.Native.Nat.{ℕ, suc, ◌+◌, ◌-◌, ◌*◌, ◌/◌, ◌%◌, ◌≤◌, ◌<◌, max}
-use native.Mathlib.Nat.{sub-zero, add-zero, max-le}
+use native.Mathlib.Nat.{add-zero, max-le}
 use native.Mathlib.Numerals.{add-one}
 use native.Mathlib.Omega.{arith}
+use mathlib.Core.Bool.{true, false}
+use borrow.Author.Tests.{leb-false}
 use lib.IntN.{ℤ, pos, negsuc, nat_abs}
+use lib.Signed.{le_z}
 use lib.ListN.{length, get_or, take, drop, set, length-set}
 use lib.Seq.{take-length, drop-length, length-take-le, take-suc, take-suc-set}
 use borrow.Rule.Slice.PartMut.{put_mid}
@@ -20,13 +23,7 @@ use Rattle.forms.specs.Print.{digits, count, decimal, signed_decimal, hex_digit,
 use Rattle.values.specs.declared.value.Text.{Text}
 use Rattle.values.proofs.Parts.{be-length}
 use Rattle.values.proofs.Packing.{take-pad, text-long}
-use Rattle.values.proofs.Signed.{Below, Above}
 use Rattle.forms.proofs.Digits.{digits-length, count_most}
-
--- ---- a whole front is written
-
-pub front : (p out last : List ℕ) (n : ℕ) → n ≡ length p → last ≡ p → Front p out (last ++ drop (n - 0) out) n
-front p out last n e h = record { count = e; bytes = rw (h, sub-zero n) }
 
 -- ---- decimal digits
 
@@ -37,12 +34,12 @@ decimal-long m = digits-length (max 1 (count 20 m)) m [] ∙ add-zero (max 1 (co
 pub decimal-short : (m : ℕ) → length (decimal m) ≤ 20
 decimal-short m = rw (decimal-long m) (max-le (omega arith) (count_most 20 m))
 
-pub front-decimal : (out last : List ℕ) (m n : ℕ) → n ≡ max 1 (count 20 m) → last ≡ digits (length (take (n - 0) out)) m [] → n ≤ length out
-    → Front (decimal m) out (last ++ drop (n - 0) out) n
+pub front-decimal : (out last : List ℕ) (m n : ℕ) → n ≡ max 1 (count 20 m) → last ≡ digits (length (take n out)) m [] → n ≤ length out
+    → Front (decimal m) out (last ++ drop n out) n
 unfolding decimal
 front-decimal out last m n e h l =
-    let k : length (take (n - 0) out) ≡ max 1 (count 20 m) = ap (λ (j : ℕ). length (take j out)) (sub-zero n) ∙ length-take-le n out l ∙ e in
-    front (decimal m) out last n (e ∙ sym (decimal-long m)) (h ∙ ap (λ (j : ℕ). digits j m []) k)
+    let k : length (take n out) ≡ max 1 (count 20 m) = length-take-le n out l ∙ e in
+    record { count = e ∙ sym (decimal-long m); bytes = ap (λ (s : List ℕ). s ++ drop n out) (h ∙ ap (λ (j : ℕ). digits j m []) k) }
 
 -- ---- one byte, and then a front of what is behind it
 
@@ -70,26 +67,23 @@ unfolding signed_decimal
 signed-short (pos n) = omega (arith, decimal-short n)
 signed-short (negsuc n) = omega (arith, decimal-short (suc n))
 
-pub below-decimal : (z : ℤ) (m : ℕ) → m ≡ nat_abs z → Below z → signed_decimal z ≡ 45 ∷ decimal m
-unfolding signed_decimal
-below-decimal (pos n) m e b = absurd (omega (arith, b.abs))
-below-decimal (negsuc n) m e b = rw e
+-- by the sign and the magnitude, as the code reads them
+module _ (z : ℤ) (m : ℕ) (f : SFits w64 z) (e : m ≡ nat_abs (to_z w64 (of_z w64 z))) where
+  pub above-decimal : le_z (pos 0) (to_z w64 (of_z w64 z)) ≡ true → signed_decimal z ≡ decimal m
+  unfolding signed_decimal
+  above-decimal t = go z (rw (to_z-of_z w64 z f) at t) (rw (to_z-of_z w64 z f) at e)
+    where
+      go : (z : ℤ) → le_z (pos 0) z ≡ true → m ≡ nat_abs z → signed_decimal z ≡ decimal m
+      go (pos n) t e = rw e
+      go (negsuc n) t e = cc
 
-pub above-decimal : (z : ℤ) (m : ℕ) → m ≡ nat_abs z → Above z → signed_decimal z ≡ decimal m
-unfolding signed_decimal
-above-decimal (pos n) m e b = rw e
-above-decimal (negsuc n) m e b = absurd (omega (arith, b.bits, b.small))
-
--- ---- two bytes, and then a part that is filled
-
-pub front-tagged : (x y k : ℕ) (out last p : List ℕ) → 2 + k ≤ length out → length p ≡ k → last ≡ p
-    → Front (x ∷ y ∷ p) out (put_mid 2 (2 + k - 2) (set (set out 0 x) 1 y) last) (2 + k)
-front-tagged x y k [] last p l e h = absurd (omega arith)
-front-tagged x y k (a ∷ []) last p l e h = absurd (omega arith)
-front-tagged x y k (a ∷ b ∷ out) last p l e h =
-    let z : 2 + k - 2 ≡ k = omega arith in
-    let n : 2 + k ≡ suc (suc k) = omega arith in
-    record { count = omega arith; bytes = rw (z, h, n) }
+  pub below-decimal : le_z (pos 0) (to_z w64 (of_z w64 z)) ≡ false → signed_decimal z ≡ 45 ∷ decimal m
+  unfolding signed_decimal
+  below-decimal t = go z (rw (to_z-of_z w64 z f) at t) (rw (to_z-of_z w64 z f) at e)
+    where
+      go : (z : ℤ) → le_z (pos 0) z ≡ false → m ≡ nat_abs z → signed_decimal z ≡ 45 ∷ decimal m
+      go (pos n) t e = absurd (omega (arith, leb-false 0 n t))
+      go (negsuc n) t e = rw e
 
 -- ---- two hexadecimal digits for each byte
 

@@ -1,11 +1,13 @@
--- Names and values read in a record: each definition by its cases, and what is known of what was read or of where it broke. Assumes nothing.
+-- Names and values read in a record: what is known of what was read or of where it broke. Assumes nothing.
+use Rattle.forms.specs.Read.{ReadCell}
+use Rattle.std.specs.declared.result.Result.TheVariants.{Ok}
 use mathlib.Core.Path.{◌≡◌, refl, sym, ap, ◌∙◌, subst}
 use mathlib.Core.Bool.{Bool, true, false, cond}
 use mathlib.Core.Logic.{◌⊎◌, inl, inr, ⊎_elim}
 use mathlib.Core.List.{List}
 use Prim.Native.Nat.{ℕ, ◌+◌, ◌-◌, ◌^◌, ◌≤◌, ◌<◌}
 use native.Mathlib.Omega.{arith}
-use borrow.Author.Tests.{le-ltb, lt-ltb, le-leb, lt-leb, ne_eqb, leb-false, ltb-false}
+use borrow.Author.Tests.{leb-false, ltb-false}
 use lib.Dec.{eqb, leb, ltb}
 use lib.ListN.{length, get_or, take, drop, length-take}
 use mir.Syntax.{w64}
@@ -17,75 +19,9 @@ use Rattle.values.specs.Cell.{cell_width, InRange, Storable}
 use Rattle.forms.specs.Read.{Read, got, broken, name_at, boolean_at, eight_at, as_text, content_at, value_at, cell_read, ProperRead, CellRead}
 use Rattle.values.specs.Meaning.{held, ProperCell}
 use Rattle.values.specs.declared.value.Cell.{Cell}
-use Rattle.forms.specs.declared.read.ReadCell.{ReadCell}
-use Rattle.forms.specs.declared.read.ReadCell.TheVariants.{Got}
 use Rattle.values.proofs.Floats.{normal-lt, normal-twice}
 use Rattle.values.proofs.Packing.{take-bytes, drop-bytes}
 use Rattle.values.proofs.Cells.{eight-lt, storable-full}
-
--- ---- by cases, under the tests that lead to each
-
-pub name-cut : (s : List ℕ) (at : ℕ) → length s ≤ at → broken at ≡ name_at s at
-unfolding name_at
-name-cut s at h = simp (le-leb _ _ h)
-
-pub name-long : (s : List ℕ) (at : ℕ) → at < length s → text_most < get_or s at 0 → broken at ≡ name_at s at
-unfolding name_at
-name-long s at h l = simp (lt-leb _ _ h, lt-ltb _ _ l)
-
-pub name-short : (s : List ℕ) (at : ℕ) → at < length s → get_or s at 0 ≤ text_most → length s - (at + 1) < get_or s at 0 → broken (length s) ≡ name_at s at
-unfolding name_at
-name-short s at h l k = simp (lt-leb _ _ h, le-ltb _ _ l, lt-ltb _ _ k)
-
--- a part's length, as the code has it: the end less the start
-end-less-start : (b n : ℕ) → b + n - b ≡ n
-end-less-start b n = omega arith
-
-pub name-got : (s : List ℕ) (at : ℕ) (t : List ℕ) → at < length s → get_or s at 0 ≤ text_most → get_or s at 0 ≤ length s - (at + 1)
-    → t ≡ take (at + 1 + get_or s at 0 - (at + 1)) (drop (at + 1) s) → got t (at + 1 + get_or s at 0) ≡ name_at s at
-unfolding name_at
-name-got s at t h l k e = simp (lt-leb _ _ h, le-ltb _ _ l, le-ltb _ _ k, e, end-less-start)
-
-pub boolean-cut : (s : List ℕ) (b : ℕ) → length s ≤ b → broken b ≡ boolean_at s b
-unfolding boolean_at
-boolean-cut s b h = simp (le-leb _ _ h)
-
-pub boolean-bad : (s : List ℕ) (b : ℕ) → b < length s → 1 < get_or s b 0 → broken b ≡ boolean_at s b
-unfolding boolean_at
-boolean-bad s b h l = simp (lt-leb _ _ h, lt-ltb _ _ l)
-
-pub boolean-got : (s : List ℕ) (b : ℕ) → b < length s → get_or s b 0 ≤ 1 → got (boolean (eqb (get_or s b 0) 1)) (b + 1) ≡ boolean_at s b
-unfolding boolean_at
-boolean-got s b h l = simp (lt-leb _ _ h, le-ltb _ _ l)
-
-pub eight-short : (s : List ℕ) (b : ℕ) (v : ℕ → Value) → length s - b < 8 → broken (length s) ≡ eight_at s b v
-unfolding eight_at
-eight-short s b v h = simp (lt-ltb _ _ h)
-
-pub eight-got : (s : List ℕ) (b : ℕ) (v : ℕ → Value) (w : ℕ) (x : Value) → 8 ≤ length s - b → w ≡ num 0 (take (b + 8 - b) (drop b s)) → x ≡ v w → got x (b + 8) ≡ eight_at s b v
-unfolding eight_at
-eight-got s b v w x h e q = simp (le-ltb _ _ h, q, e, end-less-start)
-
-pub value-cut : (s : List ℕ) (at : ℕ) → length s ≤ at → broken at ≡ value_at s at
-unfolding value_at
-value-cut s at h = simp (le-leb _ _ h)
-
--- past a kind byte k: what the content of that kind says
-pub value-kind : (s : List ℕ) (at k : ℕ) → at < length s → get_or s at 0 ≡ k → content_at s k (at + 1) ≡ value_at s at
-unfolding value_at
-value-kind s at k h e = simp (lt-leb _ _ h, e)
-
-pub value-bad : (s : List ℕ) (at : ℕ) → at < length s → 4 < get_or s at 0 → broken at ≡ value_at s at
-unfolding value_at content_at
-value-bad s at h l =
-    simp (
-      lt-leb _ _ h,
-      ne_eqb (get_or s at 0) 0 (omega arith),
-      ne_eqb (get_or s at 0) 1 (omega arith),
-      ne_eqb (get_or s at 0) 2 (omega arith),
-      ne_eqb (get_or s at 0) 3 (omega arith),
-      ne_eqb (get_or s at 0) 4 (omega arith),
-    ) (ap broken (omega arith))
 
 -- ---- what was read, and where a reading broke
 
@@ -206,5 +142,5 @@ value-broken s at x e = subst (Told (ValueGot s at) (BrokenBy s at)) e (value-to
 
 -- ---- what the code's answer tells
 
-pub cell-got : (s : List ℕ) (at : ℕ) (r : ReadCell) (c : Cell) (n : ℕ) → CellRead s at r → r ≡ Got c n → ProperCell c × ValueGot s at (held c) n
+pub cell-got : (s : List ℕ) (at : ℕ) (r : ReadCell) (c : Cell) (n : ℕ) → CellRead s at r → r ≡ Ok (c, n) → ProperCell c × ValueGot s at (held c) n
 cell-got s at r c n h e = (subst ProperRead e h.proper, value_read s at (held c) n (sym h.is ∙ ap cell_read e))

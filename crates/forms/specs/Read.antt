@@ -6,10 +6,11 @@ use Rattle.std.proofs.Common.{to_z}
 use Rattle.values.specs.Bytes.{num}
 use Rattle.values.specs.Value.{Value, null, boolean, integer, float, text, text_most, normal_bits}
 use Rattle.values.specs.Meaning.{text_bytes, Packed, held, ProperCell}
-use Rattle.forms.specs.declared.read.ReadName as RN
-use Rattle.forms.specs.declared.read.ReadName.TheVariants.{Named, Bad}
-use Rattle.forms.specs.declared.read.ReadCell as RC
-use Rattle.forms.specs.declared.read.ReadCell.TheVariants.{Got, Broken}
+use Rattle.std.specs.declared.result.Result.{Result}
+use Rattle.std.specs.declared.result.Result.TheVariants.{Ok, Err}
+use Rattle.values.specs.declared.value.Text.{Text}
+use Rattle.values.specs.declared.value.Cell.{Cell}
+use Rattle.forms.specs.declared.read.Broken.{Broken}
 
 pub data Read (A : Type 0) : Type 0 where
   got : A → ℕ → Read A
@@ -54,26 +55,37 @@ value_at s at = cond (leb (length s) at) (broken at) (content_at s (get_or s at 
 
 -- ---- the code's answers
 
-abbrev pub name_read : RN.ReadName → Read (List ℕ)
-name_read (Named t n) = got (text_bytes t) n
-name_read (Bad x) = broken x
+abbrev pub ReadName : Type 0
+ReadName = Result (Text × ℕ) Broken
 
-abbrev pub ProperName : RN.ReadName → Type 0
-ProperName (Named t n) = Packed t
-ProperName (Bad x) = Unit {0}
+abbrev pub ReadCell : Type 0
+ReadCell = Result (Cell × ℕ) Broken
 
-abbrev pub cell_read : RC.ReadCell → Read Value
-cell_read (Got c n) = got (held c) n
-cell_read (Broken x) = broken x
+-- by what a thing that was read means
+abbrev pub read_as : {A B : Type 0} → (A → B) → Result (A × ℕ) Broken → Read B
+read_as f (Ok r) = got (f r.0) r.1
+read_as f (Err b) = broken b.at
 
-abbrev pub ProperRead : RC.ReadCell → Type 0
-ProperRead (Got c n) = ProperCell c
-ProperRead (Broken x) = Unit {0}
+abbrev pub name_read : ReadName → Read (List ℕ)
+name_read (Ok r) = got (text_bytes r.0) r.1
+name_read (Err b) = broken b.at
 
-pub record NameRead (s : List ℕ) (at : ℕ) (r : RN.ReadName) : Type 0 where
+abbrev pub ProperName : ReadName → Type 0
+ProperName (Ok r) = Packed r.0
+ProperName (Err b) = Unit {0}
+
+abbrev pub cell_read : ReadCell → Read Value
+cell_read (Ok r) = got (held r.0) r.1
+cell_read (Err b) = broken b.at
+
+abbrev pub ProperRead : ReadCell → Type 0
+ProperRead (Ok r) = ProperCell r.0
+ProperRead (Err b) = Unit {0}
+
+pub record NameRead (s : List ℕ) (at : ℕ) (r : ReadName) : Type 0 where
   pub is : name_read r ≡ name_at s at
   pub proper : ProperName r
 
-pub record CellRead (s : List ℕ) (at : ℕ) (r : RC.ReadCell) : Type 0 where
+pub record CellRead (s : List ℕ) (at : ℕ) (r : ReadCell) : Type 0 where
   pub is : cell_read r ≡ value_at s at
   pub proper : ProperRead r

@@ -1,5 +1,5 @@
 // A value as a `row` line prints it, into the front of a lent buffer.
-ghost use Rattle.std.specs.Prelude.{◌≡◌, [], ◌∷◌, ◌+◌, ◌*◌, ◌<◌, ◌≤◌, max, nat_abs, length};
+ghost use Rattle.std.specs.Prelude.{◌≡◌, [], ◌∷◌, ◌+◌, ◌*◌, ◌<◌, ◌≤◌, max, length};
 ghost use Rattle.std.specs.Float.{binary64};
 ghost use Rattle.std.specs.Float.Ieee.{to_bits};
 ghost use Rattle.values.specs.Value.{float, text};
@@ -11,30 +11,26 @@ use values::{bytes, cell, value};
 
 // How many decimal digits m has, at least one.
 fn digit_count(m: u64) -> usize
-    ensures { result ≡ max 1 (count 20 m) }
+    ensures digits { result ≡ max 1 (count 20 m) }
+    ensures bound { result ≤ 20 }
 {
     let mut n: usize = 0;
     let mut rest = m;
     while 0 < rest {
-        rest = rest / 10;
+        rest /= 10;
         n += 1;
     }
-    if n == 0 {
-        return 1;
-    }
-    n
+    n.max(1)
 }
 
 // Fills out with the last digits of m.
 fn put_digits(out: &mut [u8], m: u64)
     ensures { out.new ≡ digits (length out.old) m [] }
 {
-    let mut i = out.len();
     let mut rest = m;
-    while 0 < i {
-        i -= 1;
-        out[i] = (48 + rest % 10) as u8;
-        rest = rest / 10;
+    for i in (0..out.len()).rev() {
+        out[i] = b'0' + (rest % 10) as u8;
+        rest /= 10;
     }
 }
 
@@ -44,19 +40,8 @@ pub fn put_decimal(out: &mut [u8], m: u64) -> usize
     ensures { Front (decimal m) out.old out.new result × (result ≤ 20) }
 {
     let n = digit_count(m);
-    put_digits(&mut out[0..n], m);
+    put_digits(&mut out[..n], m);
     n
-}
-
-// How far z is from zero.
-fn magnitude(z: i64) -> u64
-    ensures { result ≡ nat_abs z }
-{
-    if z < 0 {
-        ((-1 - z) as u64) + 1
-    } else {
-        z as u64
-    }
 }
 
 // Decimal digits with a minus sign if below zero.
@@ -64,20 +49,18 @@ fn put_integer(out: &mut [u8], z: i64) -> usize
     requires { print_most ≤ length out.old }
     ensures { Front (signed_decimal z) out.old out.new result }
 {
-    let m = magnitude(z);
-    if z < 0 {
-        out[0] = 45;
-        let n = put_decimal(&mut out[1..], m);
-        return n + 1;
+    if 0 <= z {
+        return put_decimal(out, z.unsigned_abs());
     }
-    put_decimal(out, m)
+    out[0] = b'-';
+    put_decimal(&mut out[1..], z.unsigned_abs()) + 1
 }
 
 fn hex_digit(d: u8) -> u8
     requires { d < 16 }
     ensures { result ≡ hex_digit d }
 {
-    if d < 10 { 48 + d } else { 87 + d }
+    if d < 10 { b'0' + d } else { b'a' + (d - 10) }
 }
 
 // Fills out with two digits for each byte of s.
@@ -85,13 +68,9 @@ fn put_hex(out: &mut [u8], s: &[u8])
     requires { length out.old ≡ 2 * length s.now }
     ensures { out.new ≡ hex s.now }
 {
-    let mut i = 0;
-    while i < s.len() {
-        let b = s[i];
-        let p = 2 * i;
-        out[p] = hex_digit(b / 16);
-        out[p + 1] = hex_digit(b % 16);
-        i += 1;
+    for (i, byte) in s.iter().enumerate() {
+        out[2 * i] = hex_digit(byte / 16);
+        out[2 * i + 1] = hex_digit(byte % 16);
     }
 }
 
@@ -100,9 +79,8 @@ fn put_bytes(out: &mut [u8], s: &[u8]) -> usize
     requires { length s.now ≤ length out.old }
     ensures { Front s.now out.old out.new result }
 {
-    let n = s.len();
-    bytes::copy(&mut out[0..n], s);
-    n
+    out[..s.len()].copy_from_slice(s);
+    s.len()
 }
 
 // A letter, a colon and two digits for each byte of s.
@@ -111,7 +89,7 @@ fn put_tagged(out: &mut [u8], letter: u8, s: &[u8]) -> usize
     ensures { Front (letter ∷ 58 ∷ hex s.now) out.old out.new result }
 {
     out[0] = letter;
-    out[1] = 58;
+    out[1] = b':';
     let end = 2 + 2 * s.len();
     put_hex(&mut out[2..end], s);
     end
@@ -122,9 +100,9 @@ fn put_float(out: &mut [u8], x: f64) -> usize
     requires { print_most ≤ length out.old }
     ensures { Front (printed (float (to_bits binary64 x))) out.old out.new result × (result ≤ print_most) }
 {
-    let mut bits = [0u8; 8];
+    let mut bits = [0; 8];
     bytes::put(&mut bits, value::float_bits(x));
-    put_tagged(out, 102, &bits)
+    put_tagged(out, b'f', &bits)
 }
 
 // `t:` and the digits of the bytes.
@@ -132,10 +110,10 @@ fn put_text(out: &mut [u8], t: Text) -> usize
     requires { (print_most ≤ length out.old) × Packed t }
     ensures { Front (printed (text (text_bytes t))) out.old out.new result × (result ≤ print_most) }
 {
-    let mut own = [0u8; 25];
+    let mut own = [0; cell::NAME_WIDTH];
     cell::write_name(&mut own, t);
-    let end = (t.len as usize) + 1;
-    put_tagged(out, 116, &own[1..end])
+    let end = usize::from(t.len) + 1;
+    put_tagged(out, b't', &own[1..end])
 }
 
 // Writes the value, and returns how many bytes that took.
@@ -143,16 +121,10 @@ pub fn print_value(out: &mut [u8], c: Cell) -> usize
     requires { (print_most ≤ length out.old) × ProperCell c }
     ensures { Front (printed (held c)) out.old out.new result × (result ≤ print_most) }
 {
-    let v = c.value;
-    match v {
+    match c.value {
         Value::Null => put_bytes(out, b"NULL"),
-        Value::Boolean(b) => {
-            if b {
-                put_bytes(out, b"true")
-            } else {
-                put_bytes(out, b"false")
-            }
-        }
+        Value::Boolean(true) => put_bytes(out, b"true"),
+        Value::Boolean(false) => put_bytes(out, b"false"),
         Value::Integer(z) => put_integer(out, z),
         Value::Float(x) => put_float(out, x),
         Value::Text(t) => put_text(out, t),

@@ -12,7 +12,7 @@ use Rattle.rules.specs.Profile.{Indexed, places_most}
 use Rattle.rules.specs.Journal.{Event, Journal, Books, batch_of}
 use Rattle.rules.specs.Layout.{image, parse, places_of}
 use Rattle.rules.specs.Request.{Request, said}
-use Rattle.rules.specs.declared.answer.Answer.{Answer}
+use Rattle.rules.specs.Request.{Answer}
 use Rattle.rules.specs.Step.{Change, created, dropped, added, removed, replaced, opened, kept, taken_back, note, note_all, apply_all, changed, Outcome, after, step}
 use Rattle.rules.specs.Readable.{readable}
 use Rattle.rules.specs.Sound.{every, good_event}

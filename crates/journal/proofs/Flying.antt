@@ -7,8 +7,8 @@ use native.Mathlib.Omega.{arith}
 use mathlib.Core.List.{List, [], ◌∷◌, ◌++◌, map}
 use mathlib.Core.Option
 use mathlib.Core.Option.{Option}
-use lib.ListN.{length, take, drop, set, length-set}
-use lib.Seq.{drop-drop, take-suc-set}
+use lib.ListN.{length, length-append, take, drop}
+use lib.Seq.{drop-drop}
 use Rattle.values.specs.Basic.{or_default}
 use Rattle.values.specs.Value.{Value, null}
 use Rattle.values.specs.Cell.{name_width, cell_width, read_value}
@@ -48,42 +48,39 @@ cells-next w n s h =
     ap (map read_value) (records-next w n s) ∙ map_next read_value (records w n s) (take w (drop (n * w) s))
     ∙ ap (λ (v : Value). map read_value (records w n s) ++ (v ∷ [])) (value-front w (drop (n * w) s) h)
 
-pub record Filled (p : Profile) (rec : List ℕ) (count : ℕ) (cells : List Cell) (j : ℕ) : Type 0 where
-  pub within : j ≤ count
-  pub long : length cells ≡ 8
-  pub proper : All ProperCell (take j cells)
-  pub read : map held (take j cells) ≡ read_cells p.cell j (drop name_width rec)
+pub record Filled (p : Profile) (rec : List ℕ) (row : List Cell) (j : ℕ) : Type 0 where
+  pub long : length row ≡ j
+  pub proper : All ProperCell row
+  pub read : cells_of row ≡ read_cells p.cell j (drop name_width rec)
 
-module _ (p : Profile) (rec : List ℕ) (count : ℕ) where
-  pub filled-start : (cells : List Cell) → length cells ≡ 8 → Filled p rec count cells 0
-  unfolding read_cells records
-  filled-start cells l = record { within = omega arith; long = l; proper = tt; read = refl }
+pub filled-start : (p : Profile) (rec : List ℕ) → Filled p rec [] 0
+unfolding cells_of read_cells records
+filled-start p rec = record { long = refl; proper = tt; read = refl }
 
-  module _ (g : Paging p) (few : count ≤ p.columns) (cells : List Cell) (j : ℕ) (h : Filled p rec count cells j) where
-    pub filled-room : j < count → j < 8
-    filled-room l = omega (arith, g.most)
+module _ {p : Profile} {rec : List ℕ} {row : List Cell} {j : ℕ} (g : Paging p) (h : Filled p rec row j) where
+  pub filled_next : (c : Cell) → held c ≡ read_value (drop (name_width + j * p.cell) rec) → ProperCell c → Filled p rec (row ++ (c ∷ [])) (j + 1)
+  unfolding cells_of
+  filled_next c e k =
+      record {
+        long = length-append row (c ∷ []) ∙ ap (λ (n : ℕ). n + 1) h.long;
+        proper = all-next ProperCell row c h.proper k;
+        read =
+            map_next held row c
+            ∙ ap (λ (x : List Value). x ++ (held c ∷ [])) h.read
+            ∙ ap (λ (v : Value). read_cells p.cell j (drop name_width rec) ++ (v ∷ [])) (e ∙ ap read_value (sym (drop-drop (j * p.cell) name_width rec)))
+            ∙ sym (ap (λ (n : ℕ). read_cells p.cell n (drop name_width rec)) (add-one j) ∙ cells-next p.cell j (drop name_width rec) g.coded.known.cell);
+      }
 
-    pub filled_next : (c : Cell) → j < count → held c ≡ read_value (drop (name_width + j * p.cell) rec) → ProperCell c → Filled p rec count (set cells j c) (j + 1)
-    filled_next c l e k =
-        let t : take (j + 1) (set cells j c) ≡ take j cells ++ (c ∷ []) = rw (add-one j) (take-suc-set cells j c (omega (arith, h.long, filled-room l))) in
+  module _ {count : ℕ} (few : count ≤ p.columns) where
+    pub filled-room : j < count → length row < 8
+    filled-room l = omega (arith, h.long, g.most)
+
+    pub filled-ends : j ≤ count → count ≤ j → RowFrom p rec count row
+    filled-ends m l =
+        let e : j ≡ count = omega arith in
         record {
-          within = omega arith;
-          long = rw length-set h.long;
-          proper = rw t (all-next ProperCell (take j cells) c h.proper k);
-          read =
-              ap (map held) t ∙ map_next held (take j cells) c
-              ∙ ap (λ (x : List Value). x ++ (held c ∷ [])) h.read
-              ∙ ap (λ (v : Value). read_cells p.cell j (drop name_width rec) ++ (v ∷ [])) (e ∙ ap read_value (sym (drop-drop (j * p.cell) name_width rec)))
-              ∙ sym (ap (λ (n : ℕ). read_cells p.cell n (drop name_width rec)) (add-one j) ∙ cells-next p.cell j (drop name_width rec) g.coded.known.cell);
-        }
-
-    pub filled-ends : count ≤ j → RowFrom p rec count (record { cells = cells; count = count })
-    unfolding cells_of
-    filled-ends l =
-        let e : j ≡ count = omega (arith, h.within) in
-        record {
-          proper = record { most = omega (arith, g.most); few = omega (arith, g.most, h.long); proper = rw e at h.proper };
-          counted = refl;
+          proper = record { most = omega (arith, h.long, g.most); proper = h.proper };
+          counted = h.long ∙ e;
           cells = rw e at h.read;
         }
 

@@ -17,18 +17,17 @@ use Rattle.rules.specs.State.{Row, State}
 use Rattle.rules.specs.Journal.{Event, absent, stood, put, stand, unwound, turned, roomy}
 use Rattle.rules.specs.Layout.{image, parse}
 use Rattle.rules.specs.Sound.{every, good_event, good_cells}
-use Rattle.rules.specs.Pages.{journal_length, open_image, journal_places}
 use Rattle.rules.proofs.Tests.{and_left, and_right, and_both, all_head, all_tail}
 use Rattle.rules.proofs.Trip.{canonical-normal}
 use Rattle.rules.proofs.Valid.{LaidState}
 use Rattle.rules.proofs.Removed.{with_rows}
 use Rattle.rules.proofs.Unwinding.{Normal, NormalEvent, turn-rows, turn-event}
 use Rattle.laid.proofs.Finding.{nth-get_or}
-use Rattle.laid.proofs.Stores.{held-state, held-inside}
+use Rattle.laid.proofs.Stores.{held-state}
 use Rattle.journal.specs.Turn.{event_at, events_in, Batch, PlaceIn, Turnable, Turned}
 use Rattle.journal.specs.Back.{rows_of, events_of, fits, Halfway, Unwinds, Rewindable, Rewinds}
 use Rattle.journal.proofs.Events.{its-row, put-laid}
-use Rattle.journal.proofs.Turning.{at_i, batch-long}
+use Rattle.journal.proofs.Turning.{at_i}
 use Rattle.journal.proofs.Onward.{next-parse, next-events, next-places, next-batch}
 
 -- what stands past the end of a list of places
@@ -103,22 +102,9 @@ module _ {p : Profile} {R : ℕ} {s₀ j₀ : List ℕ} {i : ℕ} {s j : List �
       ∙ ap length m.events
       ∙ simp (length-append, length-take, length-drop, turned-long) (omega (arith, m.inside))
 
-  pub half-lengths : Halfway p R s₀ j₀ i s j → (length s ≡ length s₀) × (length j ≡ length j₀)
-  half-lengths m = (
-    (held-inside p R s m.batch.store).long ∙ sym (held-inside p R s₀ m.before.store).long,
-    batch-long m.batch ∙ ap (journal_length p) m.places ∙ sym (batch-long m.before),
-  )
-
   -- every byte of both
   pub half-store : Halfway p R s₀ j₀ i s j → s ≡ image p R (with_rows (parse p R s₀) (unwound (drop i (events_of p R s₀ j₀)) (rows_of p R s₀)))
   half-store m = m.batch.store.bytes ∙ ap (image p R) m.state
-
-  pub half-journal : Halfway p R s₀ j₀ i s j
-      → j ≡ open_image p (journal_places p j₀) (take i (events_of p R s₀ j₀) ++ turned (drop i (events_of p R s₀ j₀)) (rows_of p R s₀))
-  half-journal m =
-      m.batch.bytes ∙ ap (λ (x : State). open_image p (journal_places p j) (events_in p x.tables j)) m.state
-      ∙ ap (open_image p (journal_places p j)) m.events
-      ∙ ap (λ (n : ℕ). open_image p n (take i (events_of p R s₀ j₀) ++ turned (drop i (events_of p R s₀ j₀)) (rows_of p R s₀))) m.places
 
   pub half_place : {k : ℕ} → Halfway p R s₀ j₀ i s j → k < length (events_of p R s₀ j₀) → PlaceIn p R s j k
   half_place m l = record { batch = m.batch; within = omega (arith, half-long m) }
@@ -299,12 +285,13 @@ module _ {p : Profile} {R : ℕ} {s₀ j₀ : List ℕ} where
   pub back-turn : {i : ℕ} {s j s₁ j₁ : List ℕ} → Halfway p R s₀ j₀ i s j → 0 < i → fits p R s j (i - 1) ≡ true → Turned p R s j (i - 1) s₁ j₁ → Halfway p R s₀ j₀ (i - 1) s₁ j₁
   back-turn {i} m h f t = one-back p R s₀ j₀ (i - 1) (omega (arith, m.inside)) (last m h) f t
 
-  pub back-stuck : {i : ℕ} {s j : List ℕ} → Halfway p R s₀ j₀ i s j → 0 < i → fits p R s j (i - 1) ≡ false → Unwinds p R s₀ j₀ i s j
-  back-stuck {i} m h f =
-      record {
+  pub back-stuck : {i : ℕ} {s j : List ℕ} → Halfway p R s₀ j₀ i s j → 0 < i → fits p R s j (i - 1) ≡ false → Unwinds p R s₀ j₀ (i - 1 + 1) s j
+  back-stuck {i} {s} {j} m h f =
+      let e : i - 1 + 1 ≡ i = omega arith in
+      rw e (record {
         half = m;
         all = none-back p R s₀ j₀ (i - 1) (omega (arith, m.inside)) (last m h) f ∙ sym (ne_eqb i 0 (λ e. omega (arith, h, e)));
-      }
+      })
 
   pub back-all : {i : ℕ} {s j : List ℕ} → Halfway p R s₀ j₀ i s j → (0 < i → ⊥) → Unwinds p R s₀ j₀ 0 s j
   back-all {i = zero} m h = record { half = m; all = m.room }
@@ -326,25 +313,18 @@ module _ {p : Profile} {R : ℕ} {s₀ j₀ : List ℕ} where
 -- ---- the way forth: whatever was taken back from `from` on is so from i on
 
 pub record Forth (p : Profile) (R : ℕ) (s₀ j₀ : List ℕ) (from i : ℕ) (s j : List ℕ) : Type 0 where
-  pub long : length s ≡ length s₀
-  pub wide : length j ≡ length j₀
   pub forth : (a b : List ℕ) → Halfway p R a b from s₀ j₀ → Halfway p R a b i s j
 
 module _ {p : Profile} {R : ℕ} {s₀ j₀ : List ℕ} {from : ℕ} where
   pub forth-start : Forth p R s₀ j₀ from from s₀ j₀
-  forth-start = record { long = refl; wide = refl; forth = λ a b m. m }
+  forth-start = record { forth = λ a b m. m }
 
   pub forth-ready : {i : ℕ} {s j : List ℕ} → Rewindable p R s₀ j₀ from → Forth p R s₀ j₀ from i s j → i < length (events_of p R s₀ j₀) → Turnable p R s j i
   forth-ready {i} w f l = forth-turnable p R w.store w.journal i (omega (arith, half-long w.half)) (f.forth w.store w.journal w.half)
 
-  pub forth-turn : {i : ℕ} {s j s₁ j₁ : List ℕ} → Forth p R s₀ j₀ from i s j → i < length (events_of p R s₀ j₀) → Turned p R s j i s₁ j₁ → length s₁ ≡ length s → length j₁ ≡ length j
+  pub forth-turn : {i : ℕ} {s j s₁ j₁ : List ℕ} → Forth p R s₀ j₀ from i s j → i < length (events_of p R s₀ j₀) → Turned p R s j i s₁ j₁
       → Forth p R s₀ j₀ from (i + 1) s₁ j₁
-  forth-turn {i} f l t x y =
-      record {
-        long = x ∙ f.long;
-        wide = y ∙ f.wide;
-        forth = λ a b m. rw (add-one i) (one-forth p R a b i (omega (arith, half-long m)) (f.forth a b m) t);
-      }
+  forth-turn {i} f l t = record { forth = λ a b m. rw (add-one i) (one-forth p R a b i (omega (arith, half-long m)) (f.forth a b m) t) }
 
   pub forth-end : {i : ℕ} {s j : List ℕ} → Forth p R s₀ j₀ from i s j → i ≡ length (events_of p R s₀ j₀) → Rewinds p R s₀ j₀ from s j
   forth-end f n = record { forth = λ a b m. half-end (f.forth a b m) (n ∙ half-long m) }

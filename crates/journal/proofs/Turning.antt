@@ -1,5 +1,8 @@
 -- A place turned: what the code reads of it and of its table, and what each of the four ways comes to. Assumes nothing.
-use Prim.Native.Nat.{ℕ, zero, suc, ◌+◌, ◌-◌, ◌*◌, ◌≤◌, ◌<◌}
+use Rattle.std.specs.declared.option.Option.{Option as Found}
+use Rattle.std.specs.declared.option.Option.TheVariants.{None, Some}
+use Rattle.std.specs.Option.{is_some as held-some}
+use Prim.Native.Nat.{ℕ, zero, suc, ◌+◌, ◌*◌, ◌≤◌, ◌<◌}
 use native.Mathlib.Nat.{zero-mul}
 use native.Mathlib.Omega.{arith}
 use mathlib.Core.Path.{◌≡◌, refl, sym, ◌∙◌, ap}
@@ -9,14 +12,14 @@ use mathlib.Core.Option
 use mathlib.Core.Option.{Option, none, some, none-ne-some, some-injective}
 use lib.Dec.{eqb}
 use lib.ListN.{length, get_or, take, drop, length-map, length-take, length-drop}
-use lib.Seq.{take_all, drop-drop, get_or-take, length-take-le}
+use lib.Seq.{drop-drop}
 use Rattle.values.specs.Basic.{nth, is_some, or_default, maybe}
 use Rattle.values.specs.Value.{Value, null, normalised, same}
 use Rattle.values.specs.Cell.{name_width, cell_width, read_name, read_value}
 use Rattle.values.specs.Area.{record_at, with_record}
 use Rattle.values.specs.declared.value.Cell.{Cell}
 use Rattle.values.specs.declared.value.Value.TheVariants.{Null}
-use Rattle.values.specs.Meaning.{held, Proper, ProperCell}
+use Rattle.values.specs.Meaning.{text_bytes, held, Proper, ProperCell}
 use Rattle.areas.specs.Records.{Wide, records}
 use Rattle.areas.specs.Sorted.{In, replace_at}
 use Rattle.areas.specs.Counted.{count_at}
@@ -38,21 +41,20 @@ use Rattle.rules.proofs.Valid.{LaidState, laid_of}
 use Rattle.rules.proofs.Removed.{with_rows, at-found}
 use Rattle.rules.proofs.Unwinding.{none-gone}
 use Rattle.rules.proofs.Paged.{event-long}
-use Rattle.laid.specs.declared.row.Row as F
-use Rattle.laid.specs.declared.catalog.Found.{Found}
 use Rattle.laid.specs.Catalog.{place_of, found_at}
 use Rattle.laid.specs.Row.{cells_of, ProperRow, row_in, table_in, KeyColumn, Addable, RowOf, Replaceable}
 use Rattle.laid.proofs.Finding.{nth-map, nth-get_or, all-nth, place_found, place-missing}
 use Rattle.laid.proofs.Keyed.{row_at}
-use Rattle.laid.proofs.RowFacts.{table-there, start-key}
+use Rattle.laid.proofs.RowFacts.{table-there, start-key, start-count}
 use Rattle.laid.proofs.Stores.{held-state}
-use Rattle.journal.specs.Turn.{page_at, event_at, events_in, Batch, PlaceIn, Turned, Swapped, RowFrom}
+use Rattle.journal.specs.declared.turn.Named.{Named}
+use Rattle.journal.specs.Turn.{page_at, event_at, events_in, Batch, PlaceIn, NamedAt, Turned, Swapped, RowFrom}
 use Rattle.journal.specs.Back.{is_stood, taken}
 use Rattle.journal.proofs.Noting.{open-length, open-within, open-put}
 use Rattle.journal.proofs.Flying.{cells_at}
 use Rattle.journal.proofs.Events.{its-row, placed, put-laid, stand-good}
 
--- what stands past the end of an array of cells
+-- what stands past the end of a row
 abbrev pub blank : Cell
 blank = record { value = Null }
 
@@ -71,9 +73,6 @@ pub page-is : (p : Profile) (j : List ℕ) (i : ℕ) {rec : List ℕ} {w : ℕ} 
 unfolding page_at
 page-is p j i ew e = e ∙ ap (λ (n : ℕ). record_at 3 n i j) ew
 
-pub content-is : {rec page : List ℕ} → rec ≡ page → take (length rec - 1) (drop 1 rec) ≡ drop 1 page
-content-is {rec} e = take_all (length rec - 1) (drop 1 rec) (rw length-drop (omega arith)) ∙ ap (drop 1) e
-
 -- the key's cell, as the first cell behind the name
 pub key-is : (page : List ℕ) (w : ℕ) {content : List ℕ} {v : Value} → content ≡ drop 1 page → v ≡ read_value (drop (name_width + 0 * w) content) → v ≡ read_value (drop (1 + name_width) page)
 key-is page w {content} e f = f ∙ ap (λ (n : ℕ). read_value (drop (name_width + n) content)) (zero-mul w) ∙ rw e (ap read_value (drop-drop name_width 1 page))
@@ -84,24 +83,13 @@ pub row-key : (w n k : ℕ) (page : List ℕ) {content : List ℕ} {i : ℕ} {v 
 row-key w n k page h e g l f =
     f ∙ rw (e, g) (ap read_value (sym (drop-drop (k * w) name_width (drop 1 page)))) ∙ sym (cells_at w n k (drop name_width (drop 1 page)) h l)
 
-pub answer-is : {r g : Found} {o : Option ℕ} → r ≡ g → found_at r ≡ o → found_at g ≡ o
+pub answer-is : {r g : Found ℕ} {o : Option ℕ} → r ≡ g → found_at r ≡ o → found_at g ≡ o
 answer-is e h = rw e at h
 
-pub from_is : {p : Profile} {c d : List ℕ} {m k : ℕ} {r : F.Row} → c ≡ d → m ≡ k → RowFrom p c m r → RowFrom p d k r
-from_is {p} {r = r} e g h = rw (e, g) at h
-
 -- the cell of a row in flight
-pub cell-held : (r : F.Row) → ProperRow r → (k : ℕ) → k < r.count → held (get_or r.cells k blank) ≡ cell_at (cells_of r) k
+cell-held : (r : List Cell) (k : ℕ) → k < length r → held (get_or r k blank) ≡ cell_at (cells_of r) k
 unfolding cells_of
-cell-held r h k l =
-    let m : length (take r.count r.cells) ≡ r.count = length-take-le r.count r.cells h.few in
-    ap held (sym (get_or-take r.count r.cells k blank l))
-    ∙ sym (ap (λ (o : Option Value). or_default o null) (nth-map held (take r.count r.cells) k ∙ ap (Option.map held) (nth-get_or (take r.count r.cells) k blank (omega arith))))
-
-pub cell-proper : (r : F.Row) → ProperRow r → (k : ℕ) → k < r.count → Proper (get_or r.cells k blank).value
-cell-proper r h k l =
-    let m : length (take r.count r.cells) ≡ r.count = length-take-le r.count r.cells h.few in
-    rw (← get_or-take r.count r.cells k blank l) (all-nth ProperCell (take r.count r.cells) k blank h.proper (omega arith))
+cell-held r k l = sym (ap (λ (o : Option Value). or_default o null) (nth-map held r k ∙ ap (Option.map held) (nth-get_or r k blank l)))
 
 replace-same : {A : Type 0} (xs : List A) (i : ℕ) (x : A) → nth xs i ≡ some x → replace_at i x xs ≡ xs
 unfolding replace_at
@@ -146,6 +134,14 @@ unfolding events_in
 used-is p ts j =
     let rs : List (List ℕ) = records (event_width p) (count_at used_at 2 j) (drop journal_header j) in
     sym (length-map rs (read_event p ts) ∙ length-records (event_width p) (count_at used_at 2 j) (drop journal_header j))
+
+-- the row that stood at place i, in flight, and as its key is read from it
+pub record Flown (p : Profile) (R : ℕ) (s j : List ℕ) (i : ℕ) (r : Named) (x y : List Cell) : Type 0 where
+  pub proper : ProperRow x
+  pub cells : cells_of x ≡ read_cells p.cell (length (table_in p R s r.table).columns) (drop name_width (drop 1 (page_at p j i)))
+  pub inside : r.column < length y
+  pub key_proper : Proper (get_or y r.column blank).value
+  pub key : held (get_or y r.column blank) ≡ key_of (table_in p R s r.table) (cells_of x)
 
 -- ---- place i
 
@@ -235,160 +231,179 @@ module _ {p : Profile} {R : ℕ} {s j : List ℕ} {i : ℕ} (h : PlaceIn p R s j
           let w = its-row p R st v r (sym (ap (good_event ts) (event-stood k)) ∙ turn-good) in
           ap (λ (m : Name). is_some (table_named ts m)) (sym (row-name p ts (drop 1 (page_at p j i)))) ∙ ap is_some w.named
 
-  module _ {name : Name} (en : name ≡ read_name (drop 1 (page_at p j i))) where
-    -- its table is stored
-    pub table-never : {Q : Type 0} → none ≡ place_of (is_named name) (parse p R s).tables → Q
-    table-never f =
-        absurd (false≢true (sym (ap is_some (ap (table_named ts) (sym en) ∙ place-missing (is_named name) ts (sym f))) ∙ table-some))
+  -- its table is stored
+  pub table-never : {name : Name} → name ≡ read_name (drop 1 (page_at p j i)) → none ≡ place_of (is_named name) (parse p R s).tables → ⊥
+  table-never {name} en f =
+      absurd (false≢true (sym (ap is_some (ap (table_named ts) (sym en) ∙ place-missing (is_named name) ts (sym f))) ∙ table-some))
 
-    module _ {t : ℕ} (et : some t ≡ place_of (is_named name) (parse p R s).tables) where
-      pub table-known : t < length (parse p R s).tables
-      table-known = (place_found (is_named name) ts t (sym et)).0
+  pub table-known : (name : Name) (t : ℕ) → some t ≡ place_of (is_named name) (parse p R s).tables → t < length (parse p R s).tables
+  table-known name t et = (place_found (is_named name) ts t (sym et)).0
 
-      table_is : table_named (parse p R s).tables name ≡ some (table_in p R s t)
-      table_is = sym (place_found (is_named name) ts t (sym et)).1 ∙ table-there p R s t table-known
+  pub key-at : (name : Name) (t : ℕ) → some t ≡ place_of (is_named name) (parse p R s).tables
+      → {rec : List ℕ} → rec ≡ get_or (lists p R s).schemas t [] → {column : ℕ} → column ≡ get_or rec 25 0 → column ≡ (table_in p R s t).key
+  key-at name t et {rec} er ec = ec ∙ start-key p R s h.batch.store t (table-known name t et) rec er
 
-      its-name : (table_in p R s t).name ≡ name
-      its-name = name-is _ _ (find-in (is_named name) ts (table_in p R s t) table_is).1
+  module _ {r : Named} (m : NamedAt p R s j i r) where
+    abbrev name : Name
+    name = text_bytes r.name
 
-      table-in : In (table_in p R s t) (parse p R s).tables
-      table-in = (find-in (is_named name) ts (table_in p R s t) table_is).0
+    abbrev t : Table
+    t = table_in p R s r.table
 
-      key_below : (table_in p R s t).key < length (table_in p R s t).columns
-      key_below =
-          let k = key-column ts (table_in p R s t) (v.faults (table_in p R s t) table-in) in
-          nth-below (table_in p R s t).columns (table_in p R s t).key k.column k.is
+    pub named-known : r.table < length (parse p R s).tables
+    named-known = table-known name r.table m.found
 
-      pub columns-few : length (table_in p R s t).columns ≤ p.columns
-      columns-few = few-columns p R st v (table_in p R s t) table-in
+    table_is : table_named (parse p R s).tables (text_bytes r.name) ≡ some (table_in p R s r.table)
+    table_is = sym (place_found (is_named name) ts r.table (sym m.found)).1 ∙ table-there p R s r.table named-known
 
-      module _ {rec : List ℕ} (er : rec ≡ get_or (lists p R s).schemas t []) {column : ℕ} (ec : column ≡ get_or rec 25 0) where
-        pub key-at : column ≡ (table_in p R s t).key
-        key-at = ec ∙ start-key p R s h.batch.store t table-known rec er
+    its-name : (table_in p R s r.table).name ≡ text_bytes r.name
+    its-name = name-is _ _ (find-in (is_named name) ts t table_is).1
 
-        pub key-less : column < length (table_in p R s t).columns
-        key-less = omega (arith, key-at, key_below)
+    table-in : In (table_in p R s r.table) (parse p R s).tables
+    table-in = (find-in (is_named name) ts t table_is).0
 
-        pub key-found : KeyColumn p R s name column
-        key-found =
-            record {
-              inside = omega (arith, key-at, key_below, columns-few);
-              is = λ u f. key-at ∙ ap (λ (x : Table). x.key) (some-injective (table_in p R s t) u (sym table_is ∙ f));
-            }
+    pub columns-few : length (table_in p R s r.table).columns ≤ p.columns
+    columns-few = few-columns p R st v t table-in
 
-      -- the row at place k has a key
-      module _ (key : Value) {k : ℕ} (ek : some k ≡ place_of (is_row name key) (parse p R s).rows) where
-        stored : k < length (parse p R s).rows
-        stored = (place_found (is_row name key) rs k (sym ek)).0
+    pub key-less : r.column < length (table_in p R s r.table).columns
+    key-less =
+        let k = key-column ts t (v.faults t table-in) in
+        rw m.key (nth-below t.columns t.key k.column k.is)
 
-        row-found : row_with (parse p R s).rows name key ≡ some (row_in p R s k)
-        row-found = sym (place_found (is_row name key) rs k (sym ek)).1 ∙ row_at p R s h.batch.store k stored
+    pub key-found : KeyColumn p R s (text_bytes r.name) r.column
+    key-found =
+        record {
+          inside = omega (arith, key-less, columns-few);
+          is = λ u f. m.key ∙ ap (λ (x : Table). x.key) (some-injective t u (sym table_is ∙ f));
+        }
 
-        is-it : is_row name key (row_in p R s k) ≡ true
-        is-it = (find-in (is_row name key) rs (row_in p R s k) row-found).1
+    -- the row at place k has a key
+    module _ (key : Value) {k : ℕ} (ek : some k ≡ place_of (is_row (text_bytes r.name) key) (parse p R s).rows) where
+      stored : k < length (parse p R s).rows
+      stored = (place_found (is_row name key) rs k (sym ek)).0
 
-        pub row-its : RowOf p R s t k
-        row-its = record { known = table-known; stored = stored; of = name-is _ _ (and_left _ _ is-it) ∙ sym its-name }
+      row-found : row_with (parse p R s).rows (text_bytes r.name) key ≡ some (row_in p R s k)
+      row-found = sym (place_found (is_row name key) rs k (sym ek)).1 ∙ row_at p R s h.batch.store k stored
+
+      is-it : is_row (text_bytes r.name) key (row_in p R s k) ≡ true
+      is-it = (find-in (is_row name key) rs (row_in p R s k) row-found).1
+
+      pub row-its : RowOf p R s r.table k
+      row-its = record { known = named-known; stored = stored; of = name-is _ _ (and_left _ _ is-it) ∙ sym its-name }
 
     -- ---- nothing stood there
 
     module _ (kind : eqb (get_or (page_at p j i) 0 0) 2 ≡ false) {key : Value} (ey : key ≡ read_value (drop (1 + name_width) (page_at p j i))) where
-      e-is : event_at p (parse p R s).tables j i ≡ absent name key
-      e-is = event-absent kind ∙ rw (en, ey)
+      e-is : event_at p (parse p R s).tables j i ≡ absent (text_bytes r.name) key
+      e-is = event-absent kind ∙ rw (m.name, ey)
 
       -- nor does now
-      pub absent_none : none ≡ place_of (is_row name key) (parse p R s).rows → Turned p R s j i s j
+      pub absent_none : none ≡ place_of (is_row (text_bytes r.name) key) (parse p R s).rows → Turned p R s j i s j
       unfolding put stand maybe
       absent_none f =
           let g = place-missing (is_row name key) rs (sym f) in
           turned_none (ap (λ (x : Event). stand x rs) e-is ∙ ap (finding name key) g ∙ sym e-is) (ap (λ (x : Event). put x rs) e-is ∙ none-gone name key rs g)
 
       -- a row does now
-      pub absent-row : {t k : ℕ} → some t ≡ place_of (is_named name) (parse p R s).tables → some k ≡ place_of (is_row name key) (parse p R s).rows
+      pub absent-row : {k : ℕ} → some k ≡ place_of (is_row (text_bytes r.name) key) (parse p R s).rows
           → {s₁ j₁ : List ℕ} → Swapped p R s j i (removed (row_in p R s k)) (stood (row_in p R s k)) s₁ j₁ → Turned p R s j i s₁ j₁
       unfolding put stand maybe apply
-      absent-row {t} {k} et ek y =
-          turned_by y (sym (ap (λ (x : Event). stand x rs) e-is ∙ ap (finding name key) (row-found et key ek)))
-          (ap (with_rows st) (sym (ap (λ (x : Event). put x rs) e-is ∙ keep-ext _ _ rs (λ x m. ap not (sym (at-found name key x (row_in p R s k) (is-it et key ek)))))))
+      absent-row {k} ek y =
+          turned_by y (sym (ap (λ (x : Event). stand x rs) e-is ∙ ap (finding name key) (row-found key ek)))
+          (ap (with_rows st) (sym (ap (λ (x : Event). put x rs) e-is ∙ keep-ext _ _ rs (λ x m. ap not (sym (at-found name key x (row_in p R s k) (is-it key ek)))))))
 
     -- ---- a row stood there
 
-    module _ (kind : eqb (get_or (page_at p j i) 0 0) 2 ≡ true) {t : ℕ} (et : some t ≡ place_of (is_named name) (parse p R s).tables) {vs : List Value}
-        (f : vs ≡ read_cells p.cell (length (table_in p R s t).columns) (drop name_width (drop 1 (page_at p j i)))) where
+    -- as it was read from the place
+    pub flown : {rec : List ℕ} → rec ≡ get_or (lists p R s).schemas r.table [] → {count : ℕ} → count ≡ get_or rec 26 0
+        → {c : List ℕ} → c ≡ drop 1 (page_at p j i) → {o : List Cell} → RowFrom p c count o → {x y : List Cell} → x ≡ o → y ≡ o → Flown p R s j i r x y
+    flown {rec} er {count} en ec {o} f ex ey =
+        let n : count ≡ length t.columns = en ∙ start-count p R s h.batch.store r.table named-known rec er in
+        let l : r.column < length o = omega (arith, f.counted, n, key-less) in
+        record {
+          proper = rw ex f.proper;
+          cells = rw ex (rw (ec, n) at f.cells);
+          inside = rw ey l;
+          key_proper = rw ey (all-nth ProperCell o r.column blank f.proper.proper l);
+          key = rw (ex, ey) (cell-held o r.column l ∙ ap (cell_at (cells_of o)) m.key);
+        }
+
+    pub count-few : {rec : List ℕ} → rec ≡ get_or (lists p R s).schemas r.table [] → {count : ℕ} → count ≡ get_or rec 26 0 → count ≤ p.columns
+    count-few {rec} er {count} en = omega (arith, en, start-count p R s h.batch.store r.table named-known rec er, columns-few)
+
+    module _ (kind : eqb (get_or (page_at p j i) 0 0) 2 ≡ true) {vs : List Value}
+        (f : vs ≡ read_cells p.cell (length (table_in p R s r.table).columns) (drop name_width (drop 1 (page_at p j i)))) where
       abbrev new : Row
-      new = row_of (table_in p R s t) vs
+      new = row_of (table_in p R s r.table) vs
 
       abbrev kv : Value
-      kv = key_of (table_in p R s t) vs
+      kv = key_of (table_in p R s r.table) vs
 
-      row-e : event_at p (parse p R s).tables j i ≡ stood (row_of (table_in p R s t) vs)
+      row-e : event_at p (parse p R s).tables j i ≡ stood (row_of (table_in p R s r.table) vs)
       unfolding read_row
       row-e =
-          let q : table_named ts n ≡ some (table_in p R s t) = ap (table_named ts) (sym en) ∙ table_is et in
+          let q : table_named ts n ≡ some (table_in p R s r.table) = ap (table_named ts) (sym m.name) ∙ table_is in
           event-stood kind ∙ ap stood (rw (q, f))
 
-      new-good : good_event (parse p R s).tables (stood (row_of (table_in p R s t) vs)) ≡ true
+      new-good : good_event (parse p R s).tables (stood (row_of (table_in p R s r.table) vs)) ≡ true
       new-good = sym (ap (good_event ts) row-e) ∙ turn-good
 
-      key-normal : normalised (key_of (table_in p R s t) vs) ≡ key_of (table_in p R s t) vs
+      key-normal : normalised (key_of (table_in p R s r.table) vs) ≡ key_of (table_in p R s r.table) vs
       unfolding good_cells
       key-normal =
-          canonical-normal _ (canonical-cell vs (table_in p R s t).key (all_head _ _ (all_tail _ _ (all_tail _ _ (its-row p R st v new new-good).good))))
+          canonical-normal _ (canonical-cell vs (table_in p R s r.table).key (all_head _ _ (all_tail _ _ (all_tail _ _ (its-row p R st v new new-good).good))))
 
-      new-laid : length (put (event_at p (parse p R s).tables j i) (parse p R s).rows) ≤ R → LaidState p R (with_rows (parse p R s) (put (stood (row_of (table_in p R s t) vs)) (parse p R s).rows))
+      new-laid : length (put (event_at p (parse p R s).tables j i) (parse p R s).rows) ≤ R → LaidState p R (with_rows (parse p R s) (put (stood (row_of (table_in p R s r.table) vs)) (parse p R s).rows))
       new-laid l = put-laid p R st v (stood new) new-good (rw row-e at l)
 
-      put_is : with_rows (parse p R s) (put (stood (row_of (table_in p R s t) vs)) (parse p R s).rows) ≡ with_rows (parse p R s) (put (event_at p (parse p R s).tables j i) (parse p R s).rows)
+      put_is : with_rows (parse p R s) (put (stood (row_of (table_in p R s r.table) vs)) (parse p R s).rows) ≡ with_rows (parse p R s) (put (event_at p (parse p R s).tables j i) (parse p R s).rows)
       put_is = ap (λ (x : Event). with_rows st (put x rs)) (sym row-e)
 
       -- what a search for its key finds is what stands there
-      stand-is : {key : Value} → key ≡ key_of (table_in p R s t) vs → {o : Option Row} → row_with (parse p R s).rows name key ≡ o
-          → finding name key o ≡ stand (event_at p (parse p R s).tables j i) (parse p R s).rows
+      stand-is : {key : Value} → key ≡ key_of (table_in p R s r.table) vs → {o : Option Row} → row_with (parse p R s).rows (text_bytes r.name) key ≡ o
+          → finding (text_bytes r.name) key o ≡ stand (event_at p (parse p R s).tables j i) (parse p R s).rows
       unfolding stand
       stand-is {key} ek {o} g =
           let a : normalised kv ≡ key = key-normal ∙ sym ek in
-          sym (ap (λ (x : Event). stand x rs) row-e ∙ rw (a, its-name et, g))
+          sym (ap (λ (x : Event). stand x rs) row-e ∙ rw (a, its-name, g))
 
       -- whether a row does
-      pub stands-none : {key : Value} → key ≡ key_of (table_in p R s t) vs → none ≡ place_of (is_row name key) (parse p R s).rows → false ≡ taken p R s j i
+      pub stands : {key : Value} → key ≡ key_of (table_in p R s r.table) vs → (g : Found ℕ) → found_at g ≡ place_of (is_row (text_bytes r.name) key) (parse p R s).rows → held-some g ≡ taken p R s j i
       unfolding maybe
-      stands-none {key} ek g = ap is_stood (stand-is ek (place-missing (is_row name key) rs (sym g)))
+      stands {key} ek None g = ap is_stood (stand-is ek (place-missing (is_row name key) rs (sym g)))
+      stands {key} ek (Some k) g = ap is_stood (stand-is ek (row-found key g))
 
-      pub stands-row : {key : Value} → key ≡ key_of (table_in p R s t) vs → {k : ℕ} → some k ≡ place_of (is_row name key) (parse p R s).rows → true ≡ taken p R s j i
-      unfolding maybe
-      stands-row {key} ek g = ap is_stood (stand-is ek (row-found et key g))
-
-      module _ {key : Value} (ek : key ≡ key_of (table_in p R s t) vs) where
+      module _ {key : Value} (ek : key ≡ key_of (table_in p R s r.table) vs) where
         -- none stands there now
-        module _ (g : none ≡ place_of (is_row name key) (parse p R s).rows) where
-          none-there : row_with (parse p R s).rows (table_in p R s t).name (key_of (table_in p R s t) vs) ≡ none
-          none-there = rw (its-name et, ← ek) (place-missing (is_row name key) rs (sym g))
+        module _ (g : none ≡ place_of (is_row (text_bytes r.name) key) (parse p R s).rows) where
+          none-there : row_with (parse p R s).rows (table_in p R s r.table).name (key_of (table_in p R s r.table) vs) ≡ none
+          none-there = rw (its-name, ← ek) (place-missing (is_row name key) rs (sym g))
 
-          pub row-addable : length (put (event_at p (parse p R s).tables j i) (parse p R s).rows) ≤ R → Addable p R s t vs
+          pub row-addable : length (put (event_at p (parse p R s).tables j i) (parse p R s).rows) ≤ R → Addable p R s r.table vs
           unfolding apply put
           row-addable l =
               record {
-                known = table-known et;
+                known = named-known;
                 new = ap is_some none-there;
                 laid = laid_of p R _ (new-laid l);
               }
 
-          pub row-came : {s₁ j₁ : List ℕ} → Swapped p R s j i (added (row_of (table_in p R s t) vs)) (absent name key) s₁ j₁ → Turned p R s j i s₁ j₁
+          pub row-came : {s₁ j₁ : List ℕ} → Swapped p R s j i (added (row_of (table_in p R s r.table) vs)) (absent (text_bytes r.name) key) s₁ j₁ → Turned p R s j i s₁ j₁
           unfolding apply put maybe
           row-came y = turned_by y (stand-is ek (place-missing (is_row name key) rs (sym g))) put_is
 
         -- another does
-        module _ {k : ℕ} (g : some k ≡ place_of (is_row name key) (parse p R s).rows) where
-          pub row-replaceable : length (put (event_at p (parse p R s).tables j i) (parse p R s).rows) ≤ R → Replaceable p R s t k vs
+        module _ {k : ℕ} (g : some k ≡ place_of (is_row (text_bytes r.name) key) (parse p R s).rows) where
+          pub row-replaceable : length (put (event_at p (parse p R s).tables j i) (parse p R s).rows) ≤ R → Replaceable p R s r.table k vs
           unfolding apply put
           row-replaceable l =
               record {
-                row = row-its et key g;
-                same = rw ek at (and_right (of_table name (row_in p R s k)) (same (row_in p R s k).key key) (is-it et key g));
+                row = row-its key g;
+                same = rw ek at (and_right (of_table name (row_in p R s k)) (same (row_in p R s k).key key) (is-it key g));
                 laid = laid_of p R _ (new-laid l);
               }
 
           pub row-changed : {s₁ j₁ : List ℕ}
-              → Swapped p R s j i (replaced (row_in p R s k) (row_of (table_in p R s t) vs)) (stood (row_in p R s k)) s₁ j₁ → Turned p R s j i s₁ j₁
+              → Swapped p R s j i (replaced (row_in p R s k) (row_of (table_in p R s r.table) vs)) (stood (row_in p R s k)) s₁ j₁ → Turned p R s j i s₁ j₁
           unfolding apply put maybe
-          row-changed y = turned_by y (stand-is ek (row-found et key g)) put_is
+          row-changed y = turned_by y (stand-is ek (row-found key g)) put_is

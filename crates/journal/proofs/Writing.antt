@@ -6,13 +6,13 @@ use native.Mathlib.Omega.{arith}
 use mathlib.Core.List.{List, [], ◌∷◌, ◌++◌, append_assoc}
 use lib.ListN.{length, take, drop, set, replicate, length-append, length-take, length-drop, length-set, length-replicate}
 use borrow.Rule.Slice.PartMut.{put_mid}
-use Rattle.values.specs.Area.{cleared, with_record}
+use Rattle.values.specs.Area.{with_record}
 use Rattle.values.specs.Bytes.{pad}
 use Rattle.values.specs.Cell.{cell_width, name_cell, value_cell}
 use Rattle.values.specs.declared.value.Text.{Text}
 use Rattle.values.specs.declared.value.Value as D
 use Rattle.values.specs.Meaning.{text_bytes, Packed, meaning, Proper}
-use Rattle.values.proofs.Parts.{Starts, one, fill, fill-zeros, whole}
+use Rattle.values.proofs.Parts.{Starts, one, fill, whole}
 use Rattle.areas.proofs.Places.{written_back}
 use Rattle.rules.specs.declared.profile.Profile.{Profile}
 use Rattle.rules.specs.Profile.{row_width, Known}
@@ -34,19 +34,17 @@ pub row-place : (p : Profile) (rec : List ℕ) → length rec ≡ row_width p �
 unfolding event_width
 row-place p rec e = omega (arith, e)
 
+-- the last part is written
+fill-rest : (n a : ℕ) (front xs ys : List ℕ) → Starts n front xs → length front ≡ a → a ≤ n → length ys ≡ n - a → put_mid a (n - a) xs ys ≡ front ++ ys
+fill-rest n a front xs ys s l h k =
+    whole n (front ++ ys) (put_mid a (n - a) xs ys) (fill n a (n - a) front xs ys s l k (omega arith)) (length-append front ys ∙ omega (arith, l, k))
+
 -- a row
 module _ (d rec : List ℕ) (long : length d ≡ 1 + length rec) where
-  pub kind-room : 1 ≤ length (set d 0 2)
-  kind-room = rw length-set (omega arith)
-
-  pub rest-long : length (take (length (set d 0 2) - 1) (drop 1 (set d 0 2))) ≡ length rec
-  rest-long = simp (length-take, length-drop, length-set) (omega arith)
-
   pub row_written : (y : List ℕ) → y ≡ rec → put_mid 1 (length (set d 0 2) - 1) (set d 0 2) y ≡ 2 ∷ rec
   row_written y e =
-      let n : length (set d 0 2) - 1 ≡ length rec = rw length-set (omega arith) in
-      let s = fill (length d) 1 (length rec) (2 ∷ []) (set d 0 2) y (one (length d) 2 d refl (omega arith)) refl (ap length e) (omega arith) in
-      ap (λ (k : ℕ). put_mid 1 k (set d 0 2) y) n ∙ whole (length d) ((2 ∷ []) ++ y) _ s (ap length (ap (λ (l : List ℕ). 2 ∷ l) e) ∙ omega arith) ∙ ap (λ (l : List ℕ). 2 ∷ l) e
+      rw length-set (fill-rest (length d) 1 (2 ∷ []) (set d 0 2) y (one (length d) 2 d refl (omega arith)) refl (omega arith) (ap length e ∙ omega arith))
+      ∙ ap (λ (l : List ℕ). 2 ∷ l) e
 
 -- a name and a key's cell
 module _ (p : Profile) (g : Paging p) where
@@ -94,15 +92,15 @@ module _ (p : Profile) (g : Paging p) where
             let b : length (value_cell p.cell (meaning key)) ≡ 26 = ap (λ (w : ℕ). length (value_cell w (meaning key))) g.coded.cells ∙ cell-wide key hk in
             omega (arith, cells-room)
 
-        pub absent-written : (u : List ℕ) → u ≡ cleared 52 (length (put_mid 26 26 (put_mid 1 25 (set d 0 1) y) z)) (put_mid 26 26 (put_mid 1 25 (set d 0 1) y) z)
-            → u ≡ event_record p (absent (text_bytes name) (meaning key))
+        pub absent-written : (u : List ℕ) → u ≡ replicate (length (drop 52 (put_mid 26 26 (put_mid 1 25 (set d 0 1) y) z))) 0
+            → put_mid 52 (length (put_mid 26 26 (put_mid 1 25 (set d 0 1) y) z) - 52) (put_mid 26 26 (put_mid 1 25 (set d 0 1) y) z) u ≡ event_record p (absent (text_bytes name) (meaning key))
         unfolding event_record pad
         absent-written u e =
-            e
-            ∙ ap (λ (n : ℕ). cleared 52 n (put_mid 26 26 (put_mid 1 25 (set d 0 1) y) z)) keyed-long
-            ∙ fill-zeros (event_width p) 52 (((1 ∷ []) ++ y) ++ z) _ keyed front_long
-            ∙ append_assoc ((1 ∷ []) ++ y) z (replicate (event_width p - 52) 0)
-            ∙ ap (λ (n : ℕ). 1 ∷ (y ++ (z ++ replicate n 0))) spare
+            let k : length (put_mid 26 26 (put_mid 1 25 (set d 0 1) y) z) - 52 ≡ event_width p - 52 = omega (arith, keyed-long) in
+            let l : length u ≡ event_width p - 52 = ap length e ∙ length-replicate _ 0 ∙ length-drop 52 _ ∙ k in
+            rw k (fill-rest (event_width p) 52 (((1 ∷ []) ++ y) ++ z) _ u keyed front_long width-least l)
+            ∙ append_assoc ((1 ∷ []) ++ y) z u
+            ∙ ap (λ (v : List ℕ). 1 ∷ (y ++ (z ++ v))) (e ∙ ap (λ (m : ℕ). replicate m 0) (length-drop 52 _ ∙ k ∙ spare))
             ∙ rw (ey, ez, g.coded.cells)
 
 -- ---- place i of a journal, its width as the code has it

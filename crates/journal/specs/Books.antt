@@ -1,7 +1,7 @@
 -- A lent store and its journal, and what is promised of both afterwards. Assumes nothing.
 use Rattle.std.specs.Prelude.{◌≡◌, true, List, ℕ, ◌≤◌, length}
 use Rattle.rules.specs.declared.profile.Profile.{Profile}
-use Rattle.rules.specs.declared.answer.Answer.{Answer}
+use Rattle.rules.specs.Request.{Answer}
 use Rattle.rules.specs.Journal.{Books}
 use Rattle.rules.specs.Layout.{image, parse}
 use Rattle.rules.specs.Request.{said}

@@ -11,8 +11,8 @@ ghost use Rattle.journal.specs.Page.{Paging, Paged, Roomy, opens, has_places, wi
 use areas::area;
 use laid::layout;
 use rules::profile::Profile;
+use values::cell;
 use values::value::{Cell, Text, Value};
-use values::{bytes, cell};
 
 // The header: whether a batch is open, and how many places are in use.
 pub const USED_COUNT: usize = 1;
@@ -68,10 +68,7 @@ pub fn has_places(j: &[u8], p: Profile, n: usize) -> bool
     requires { Paged p j.now }
     ensures { result ≡ has_places p n j.now }
 {
-    if !is_open(j) {
-        return true;
-    }
-    n <= places_of(j, p) - used(j)
+    !is_open(j) || n <= places_of(j, p) - used(j)
 }
 
 // A batch begins: no place is in use.
@@ -86,8 +83,7 @@ pub fn open(j: &mut [u8])
 pub fn close(j: &mut [u8])
     ensures { j.new ≡ replicate (length j.old) 0 }
 {
-    let end = j.len();
-    bytes::clear(j, 0, end);
+    j.fill(0);
 }
 
 // A row, written over a place.
@@ -96,8 +92,7 @@ fn fill_row(part: &mut [u8], rec: &[u8])
     ensures { part.new ≡ 2 ∷ rec.now }
 {
     part[0] = A_ROW;
-    let end = part.len();
-    bytes::copy(&mut part[PLACE_NAME..end], rec);
+    part[PLACE_NAME..].copy_from_slice(rec);
 }
 
 // That nothing stood at a key, written over a place.
@@ -108,8 +103,7 @@ fn fill_absent(part: &mut [u8], p: Profile, name: Text, key: Value)
     part[0] = NOTHING;
     cell::write_name(&mut part[PLACE_NAME..PLACE_KEY], name);
     cell::write_cell(&mut part[PLACE_KEY..KEY_END], Cell { value: key });
-    let end = part.len();
-    bytes::clear(part, KEY_END, end);
+    part[KEY_END..].fill(0);
 }
 
 // A row at place i.
@@ -118,9 +112,8 @@ pub fn put_row(j: &mut [u8], p: Profile, i: usize, rec: &[u8])
     ensures { j.new ≡ with_record journal_header i (2 ∷ rec.now) j.old }
 {
     let width = event_width(p);
-    let a = HEADER_WIDTH + i * width;
-    let e = a + width;
-    fill_row(&mut j[a..e], rec);
+    let start = HEADER_WIDTH + i * width;
+    fill_row(&mut j[start..start + width], rec);
 }
 
 // Nothing at place i.
@@ -129,9 +122,8 @@ pub fn put_absent(j: &mut [u8], p: Profile, i: usize, name: Text, key: Value)
     ensures { j.new ≡ with_record journal_header i (event_record p (absent (text_bytes name) (meaning key))) j.old }
 {
     let width = event_width(p);
-    let a = HEADER_WIDTH + i * width;
-    let e = a + width;
-    fill_absent(&mut j[a..e], p, name, key);
+    let start = HEADER_WIDTH + i * width;
+    fill_absent(&mut j[start..start + width], p, name, key);
 }
 
 // One more place in use, of zeros; returns its number.
@@ -140,8 +132,8 @@ fn next_place(j: &mut [u8], p: Profile) -> usize
     ensures { Opened p j.old result j.new }
 {
     let i = used(j);
-    let width = event_width(p);
     let places = places_of(j, p);
+    let width = event_width(p);
     area::open_counted(j, USED_COUNT, USED_BYTES, HEADER_WIDTH, places, width, i);
     i
 }

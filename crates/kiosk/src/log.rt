@@ -16,23 +16,21 @@ fn is_log<F: Read + Seek>(rt: &impl Eprint, log: &mut F, name: &str) -> bool {
         return true;
     }
     let _start = log.rewind();
-    match search::search(log) {
-        Ok(Seen::Record) => {
+    match say::or_complain(rt, name, search::search(log)) {
+        Some(Seen::Record) => {
             let _start = log.rewind();
-            return true;
+            true
         }
-        Ok(_) => {
+        Some(_) => {
             say::complain(
                 rt,
                 name,
                 "this is no log of a kiosk: no record begins in it",
             );
+            false
         }
-        Err(e) => {
-            say::complain(rt, name, e);
-        }
+        None => false,
     }
-    false
 }
 
 // Brings the folder that the log stands in to the disk, so that a log that was made is there after a power cut.
@@ -40,13 +38,7 @@ fn sync_folder<R: Files + Eprint>(rt: &R, name: &str) -> bool {
     let Some(folder) = path::open_folder(rt, name) else {
         return false;
     };
-    match folder.sync_all() {
-        Ok(()) => true,
-        Err(e) => {
-            say::complain(rt, name, e);
-            false
-        }
-    }
+    say::or_complain(rt, name, folder.sync_all()).is_some()
 }
 
 fn open_update<R: Files>(rt: &R, name: &str) -> io::Result<R::File> {
@@ -61,30 +53,20 @@ fn make<R: Files>(rt: &R, name: &str) -> io::Result<()> {
         .open(rt, name)
     {
         Ok(_made) => Ok(()),
-        Err(e) => {
-            if e.kind() == ErrorKind::AlreadyExists {
-                Ok(())
-            } else {
-                Err(e)
-            }
-        }
+        Err(e) if e.kind() == ErrorKind::AlreadyExists => Ok(()),
+        Err(e) => Err(e),
     }
 }
 
 // Opens the log, or makes it where it is missing.
 fn open_or_make<R: Files>(rt: &R, name: &str) -> io::Result<R::File> {
     match open_update(rt, name) {
-        Ok(log) => {
-            return Ok(log);
+        Err(e) if e.kind() == ErrorKind::NotFound => {
+            make(rt, name)?;
+            open_update(rt, name)
         }
-        Err(e) => {
-            if e.kind() != ErrorKind::NotFound {
-                return Err(e);
-            }
-        }
+        opened => opened,
     }
-    make(rt, name)?;
-    open_update(rt, name)
 }
 
 // Opens the log, its position at its start. None is open once it is said why it is no log to go on with.
@@ -92,13 +74,7 @@ pub fn open<R: Files + Eprint>(rt: &R, name: &str) -> Option<R::File> {
     if !sync_folder(rt, name) {
         return None;
     }
-    let mut log = match open_or_make(rt, name) {
-        Ok(log) => log,
-        Err(e) => {
-            say::complain(rt, name, e);
-            return None;
-        }
-    };
+    let mut log = say::or_complain(rt, name, open_or_make(rt, name))?;
     if !files::is_kept(&log) {
         say::complain(rt, name, "this is no plain file");
         return None;
@@ -122,7 +98,7 @@ fn fill<F: OpenFile + Write>(log: &mut F, missing: usize) -> io::Result<()> {
     if zeros.len() < missing {
         return Err(io::Error::from(ErrorKind::InvalidData));
     }
-    log.write_all(&zeros[0..missing])?;
+    log.write_all(&zeros[..missing])?;
     log.sync_data()
 }
 
@@ -181,8 +157,7 @@ pub fn take_over<F: OpenFile + Read + Write + Seek>(
             return false;
         }
     }
-    if let Err(e) = mend(log, report) {
-        say::complain(rt, name, e);
+    if say::or_complain(rt, name, mend(log, report)).is_none() {
         return false;
     }
     if 0 < report.bytes {

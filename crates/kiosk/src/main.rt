@@ -80,17 +80,14 @@ fn answer_with_log<R: Files<File = File> + Print + Eprint, I: Read + IsTerminal>
         return;
     }
     drop(log);
-    match log::open_end(rt, name) {
-        Ok(end) => answer(rt, s, j, from, &mut Some(end), name),
-        Err(e) => {
-            say::complain(rt, name, e);
-            say::tell_undone(
-                rt,
-                "kiosk",
-                name,
-                " can't be added to, and nothing is answered",
-            );
-        }
+    match say::or_complain(rt, name, log::open_end(rt, name)) {
+        Some(end) => answer(rt, s, j, from, &mut Some(end), name),
+        None => say::tell_undone(
+            rt,
+            "kiosk",
+            name,
+            " can't be added to, and nothing is answered",
+        ),
     }
 }
 
@@ -136,7 +133,7 @@ fn run<R: Files<File = File> + Print + Eprint, I: Read + IsTerminal>(
         return;
     }
     let mut store = [0u8; 64958];
-    fresh::fresh(&mut store);
+    let _empty = fresh::fresh(&mut store);
     let mut journal = [0u8; 1916931];
     begin(rt, &mut store, &mut journal, from, names);
 }

@@ -19,7 +19,7 @@ fn can_begin(head: &[u8]) -> bool {
     if n < 2 {
         return n == 1 && head[0] <= 16;
     }
-    if let Framed::Skip(_) = frame::next_record(head, false) {
+    if matches!(frame::next_record(head, false), Framed::Skip(_)) {
         return false;
     }
     if n == 2 {
@@ -49,7 +49,7 @@ fn look<F: Read + Seek>(log: &mut F) -> io::Result<Seen> {
     if n < 4 {
         return Ok(Seen::End);
     }
-    pass(log, bytes::get(&head[0..2]));
+    pass(log, bytes::get(&head[..2]));
     Ok(Seen::Other)
 }
 
@@ -59,9 +59,7 @@ pub fn search<F: Read + Seek>(log: &mut F) -> io::Result<Seen> {
     for _ in 0..65536 {
         match look(log)? {
             Seen::Other => {}
-            seen => {
-                return Ok(seen);
-            }
+            seen => return Ok(seen),
         }
     }
     Ok(Seen::End)

@@ -3,14 +3,18 @@ use mathlib.Core.Path.{◌≡◌, refl, sym, ap, ◌∙◌}
 use Prim.Native.Nat.{ℕ, zero, suc, ◌+◌, ◌-◌, ◌*◌, ◌≤◌, ◌<◌}
 use native.Mathlib.Nat.{not-suc-le-zero, le_of_suc-le-suc, zero-mul, suc-mul, add_comm, suc-add, zero-add}
 use native.Mathlib.Omega.{arith}
-use mathlib.Core.Bool.{Bool}
+use mathlib.Core.Bool.{Bool, true, false}
 use mathlib.Core.List.{List, [], ◌∷◌}
 use mathlib.Core.Option.{Option, some, map}
-use lib.ListN.{length, take, drop, get_or, length-drop, length-map}
-use lib.Seq.{take_all, take-take, get_or-take, get_or-drop, drop-drop, take-nil}
+use lib.ListN.{length, take, drop, get_or, length-take, length-drop, length-map}
+use lib.Seq.{take_all, take-take, get_or-take, drop-drop, take-nil}
+use Rattle.std.specs.Bool.{then_some}
+use Rattle.std.specs.Option.{IfSome}
 use Rattle.values.specs.Basic.{nth, only_if, or_default}
 use Rattle.values.specs.Value.{Value, text_most}
 use Rattle.values.specs.Cell.{name_width, cell_width, read_name, by_kind, read_value}
+use Rattle.values.specs.Meaning.{option_of}
+use Rattle.values.specs.Area.{record_at}
 use Rattle.areas.specs.Records.{records}
 use Rattle.areas.proofs.Records.{length-records}
 use Rattle.rules.specs.declared.profile.Profile.{Profile}
@@ -117,12 +121,18 @@ module _ (p : Profile) (rec : List ℕ) where
     pub columns-few : length columns_of ≤ p.columns
     columns-few = (table-good p (read_table p rec) b.good).few
 
+    -- a column's bytes: they lie inside, and are read as the column
     module _ (i w : ℕ) (h : i < p.columns) (ew : w ≡ column_width p) where
-      -- a column lies inside
-      pub column-room : 27 + i * w + 78 ≤ length rec
-      column-room =
-          let e = column-width p in
-          rw (ew, b.long) (omega (arith, column-within p i h, b.coded.cells))
+      pub column-room : 27 + i * w + w ≤ length rec
+      column-room = rw (ew, b.long) (omega (arith, column-within p i h))
+
+      pub column-long : length (record_at 27 w i rec) ≡ 78
+      unfolding record_at
+      column-long = let r = column-room in simp (length-take, length-drop) (omega (arith, column-width p, b.coded.cells))
+
+      pub column-alike : read_column p (record_at 27 w i rec) ≡ column_at p rec i
+      unfolding record_at column_at
+      column-alike = rw ew (column-front p (drop (27 + i * column_width p) rec) b.coded.known.cell)
 
     module _ (i : ℕ) (h : i < length columns_of) where
       pub column-nth : nth columns_of i ≡ some (column_at p rec i)
@@ -137,44 +147,34 @@ module _ (p : Profile) (rec : List ℕ) where
       pub column-drop : drop i columns_of ≡ column_at p rec i ∷ drop (suc i) columns_of
       column-drop = drop_nth columns_of i (column_at p rec i) column-nth
 
-      pub column-kind : (w : ℕ) → w ≡ column_width p → get_or rec (27 + i * w + 25) 0 ≡ (column_at p rec i).kind
-      unfolding column_at read_column
-      column-kind w ew = rw ew (sym (get_or-drop (27 + i * column_width p) rec 25 0))
-
     -- the kind of the key column
     pub key-past : length columns_of ≤ get_or rec 25 0 → 0 ≡ key_kind (read_table p rec)
     key-past h = sym (ap (λ (o : Option S.Column). or_default (map (λ (c : S.Column). c.kind) o) 0) (ap (nth columns_of) (sym key-byte) ∙ nth_past columns_of (get_or rec 25 0) h))
 
-    pub key-within : (w : ℕ) → w ≡ column_width p → get_or rec 25 0 < length columns_of → get_or rec (27 + get_or rec 25 0 * w + 25) 0 ≡ key_kind (read_table p rec)
-    key-within w ew h =
-        column-kind (get_or rec 25 0) h w ew
+    pub key-within : (x : List ℕ) → read_column p x ≡ column_at p rec (get_or rec 25 0) → get_or rec 25 0 < length columns_of → get_or x 25 0 ≡ key_kind (read_table p rec)
+    unfolding read_column
+    key-within x e h =
+        ap (λ (c : S.Column). c.kind) e
         ∙ sym (ap (λ (o : Option S.Column). or_default (map (λ (c : S.Column). c.kind) o) 0) (ap (nth columns_of) (sym key-byte) ∙ column-nth (get_or rec 25 0) h))
 
     pub record-least : 27 ≤ length rec
     record-least = omega (arith, b.long, schema-least p)
 
-    -- the column that is put together from what is read at its place
-    module _ (i w : ℕ) (ew : w ≡ column_width p) where
-      abbrev pub column_bytes : List ℕ
-      column_bytes = take (length rec - (27 + i * w)) (drop (27 + i * w) rec)
+-- ---- a column put together from what is read of its bytes
 
-      pub column-read : {n r : List ℕ} {d : Value} {nullable unique index defaulted references : Bool}
-          → n ≡ read_name column_bytes
-          → nullable ≡ bit 1 (get_or column_bytes 26 0)
-          → unique ≡ bit 4 (get_or column_bytes 26 0)
-          → index ≡ bit 8 (get_or column_bytes 26 0)
-          → defaulted ≡ bit 2 (get_or column_bytes 26 0)
-          → d ≡ read_value (take (length column_bytes - 27) (drop 27 column_bytes))
-          → references ≡ bit 16 (get_or column_bytes 26 0)
-          → r ≡ read_name (take (length column_bytes - 53) (drop 53 column_bytes))
-          → ◌≡◌ {A = S.Column} (record { name = n; kind = get_or column_bytes 25 0; nullable = nullable; default = only_if defaulted d; unique = unique; index = index; reference = only_if references r }) (column_at p rec i)
-      unfolding column_at read_column
-      column-read en e1 e4 e8 e2 ed e16 er =
-          let x = drop (27 + i * column_width p) rec in
-          let f = get_or x 26 0 in
-          rw (en, e1, e4, e8, e2, ed, e16, er, rest 27 column_bytes, rest 53 column_bytes, rest (27 + i * w) rec, ew)
-          (ap
-          {B = S.Column}
-          (λ (k : ℕ).
-          (record { name = read_name x; kind = get_or x 25 0; nullable = bit 1 f; default = only_if (bit 2 f) (read_value (drop 27 x)); unique = bit 4 f; index = bit 8 f; reference = only_if (bit 16 f) (read_name (drop (27 + k) x)) }))
-          (sym b.coded.cells))
+-- a part that is there where a flag says so
+pub part-read : {A B : Type 0} (f : A → B) (b : Bool) (x : A) → map f (option_of (then_some b x)) ≡ only_if b (f x)
+part-read f true x = refl
+part-read f false x = refl
+
+pub part-proper : {A : Type 0} (P : A → Type 0) (b : Bool) (x : A) → P x → IfSome (then_some b x) P
+part-proper P true x h = h
+part-proper P false x h = tt
+
+pub parts-read : (p : Profile) (x : List ℕ) → p.cell ≡ cell_width → {n r : List ℕ} {d : Value}
+    → n ≡ read_name x
+    → d ≡ read_value (take (length x - 27) (drop 27 x))
+    → r ≡ read_name (take (length x - 53) (drop 53 x))
+    → ◌≡◌ {A = S.Column} (record { name = n; kind = get_or x 25 0; nullable = bit 1 (get_or x 26 0); default = only_if (bit 2 (get_or x 26 0)) d; unique = bit 4 (get_or x 26 0); index = bit 8 (get_or x 26 0); reference = only_if (bit 16 (get_or x 26 0)) r }) (read_column p x)
+unfolding read_column
+parts-read p x ec en ed er = rw (ec, en, ed, er, rest 27 x, rest 53 x)

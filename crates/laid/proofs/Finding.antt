@@ -13,6 +13,7 @@ use native.Mathlib.Omega.{arith}
 use mathlib.Core.List.{List, [], ◌∷◌, ◌++◌, map}
 use lib.Dec.{compare_is_eq}
 use lib.ListN.{length, take, drop, get_or}
+use Rattle.std.specs.Bool.{then_some}
 use Rattle.values.specs.Basic.{is_lt, is_nil, nth, any, find}
 use Rattle.areas.specs.Sorted.{All, Sorted, count_of, Falls}
 use Rattle.values.proofs.Orders.{Ord, congʳ, gt≢lt}
@@ -22,7 +23,7 @@ use Rattle.areas.proofs.Runs.{none_before}
 use Rattle.areas.proofs.Sorting.{all-below}
 use Rattle.rules.proofs.Lists.{any-is}
 use Rattle.rules.proofs.Tests.{is_eq}
-use Rattle.laid.specs.Catalog.{place_of}
+use Rattle.laid.specs.Catalog.{place_of, found_at}
 
 -- ---- by place
 
@@ -137,3 +138,8 @@ module _ {A : Type 0} {cmp : A → A → Ordering} (O : Ord cmp) (a : A) where
       by-test gt e h r =
           let m = any-is (λ y. compare_is_eq (cmp y a)) xs h in
           absurd (gt≢lt (sym e ∙ congʳ O x m.0 a (is_eq (cmp m.0 a) m.2) ∙ all-below O x m.0 xs s.0 s.1 m.1))
+
+-- what is found where a test says so
+pub told_place : {A : Type 0} (q : A → Bool) (xs : List A) (i : ℕ) (b : Bool) → (b ≡ true → some i ≡ place_of q xs) → (b ≡ false → none ≡ place_of q xs) → found_at (then_some b i) ≡ place_of q xs
+told_place q xs i true h g = h refl
+told_place q xs i false h g = g refl

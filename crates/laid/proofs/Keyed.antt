@@ -1,6 +1,6 @@
 -- Rows by place: a row's record and its cells, and that a search by table and key over the records finds the place of a row. Assumes nothing.
 use mathlib.Core.Path.{◌≡◌, refl, sym, ap, ◌∙◌}
-use mathlib.Core.Bool.{Bool, true, false, ◌&&◌}
+use mathlib.Core.Bool.{Bool, true, ◌&&◌}
 use mathlib.Core.Option.{Option, none, some, some-injective}
 use Prim.Native.Nat.Ordering.{eq}
 use Prim.Native.Nat.Ordering.{gt}
@@ -10,6 +10,7 @@ use native.Mathlib.Omega.{arith}
 use mathlib.Core.List.{List, [], ◌∷◌, map}
 use lib.Dec.{compare_is_eq}
 use lib.ListN.{length, take, drop, get_or, length-map}
+use Rattle.std.specs.Bool.{then_some}
 use Rattle.values.specs.Basic.{and_then, is_lt, cmp_bytes, nth, or_default}
 use Rattle.values.specs.Value.{Value, null, normalised, cmp_value}
 use Rattle.values.specs.Cell.{name_width, cell_width, read_value}
@@ -24,7 +25,7 @@ use Rattle.rules.specs.Profile.{row_width, rows_at}
 use Rattle.rules.specs.State.{Row, cmp_row, table_named, is_row, cell_at}
 use Rattle.rules.specs.Sound.{canonical}
 use Rattle.rules.specs.Layout.{lists, Rows, rows_count, row_record, records_of, parse}
-use Rattle.rules.proofs.Widths.{cell-within, row-most}
+use Rattle.rules.proofs.Widths.{cell-within}
 use Rattle.rules.proofs.Tests.{every-at}
 use Rattle.rules.proofs.Lists.{nth_in, nth-below, below-nth, map_at_lem}
 use Rattle.rules.proofs.Index.{ord_row}
@@ -32,9 +33,9 @@ use Rattle.rules.proofs.Room.{key-column, table-in}
 use Rattle.rules.proofs.Trip.{GoodRow, row-name, row-cell, row-long, cell-alone, canonical-normal}
 use Rattle.rules.proofs.Whole.{good-row, key-is}
 use Rattle.laid.specs.Store.{LaidStore}
-use Rattle.laid.specs.Catalog.{place_of}
+use Rattle.laid.specs.Catalog.{place_of, found_at}
 use Rattle.laid.specs.Row.{KeyColumn, keyed, no_row, row_in}
-use Rattle.laid.proofs.Finding.{no_place, place-rank, nth-get_or}
+use Rattle.laid.proofs.Finding.{no_place, place-rank, nth-get_or, told_place}
 use Rattle.laid.proofs.Columns.{value-front}
 use Rattle.laid.proofs.Inside.{area-count}
 use Rattle.laid.proofs.Stores.{held-state, held-lists, held-inside}
@@ -124,12 +125,9 @@ module _ (p : Profile) (R : ℕ) (s : List ℕ) (b : LaidStore p R s) where
     abbrev at : ℕ
     at = name_width + column * p.cell
 
-    -- the key's cell lies inside, and its offset fits a machine word
+    -- the key's cell lies inside
     pub key-room : at + cell_width ≤ row_width p
     key-room = cell_room p b.coded.known.cell column kc.inside
-
-    pub key-small : at ≤ 1049
-    key-small = omega (arith, key-room, row-most p b.coded.known)
 
     -- a row of the table has its key in the key column
     key-read : (r : Row) → In r rows → r.table ≡ n → read_value (drop at (row_record p r)) ≡ r.key
@@ -193,8 +191,9 @@ module _ (p : Profile) (R : ℕ) (s : List ℕ) (b : LaidStore p R s) where
             ∙ ap (λ (r : Row). compare_is_eq (cmp_row r (keyed n key))) (some-injective _ _ (sym (nth-get_or rows i no_row h) ∙ row_at i h))
             ∙ ap compare_is_eq (sym (agree (row_in p R s i) (row-in i h)) ∙ ap (λ (r : List ℕ). cmp_keyed at r n key) (sym (er ∙ row_read i h)) ∙ sym eo)
 
-        pub row_here : compare_is_eq o ≡ true → some i ≡ place_of (is_row n key) rows
-        row_here e = ap some ei ∙ sym (place-rank ord_row (keyed n key) rows sorted (at_place ∙ e)) ∙ is-row
-
-        pub row-elsewhere : compare_is_eq o ≡ false → none ≡ place_of (is_row n key) rows
-        row-elsewhere e = sym (sym is-row ∙ no_place (λ r. compare_is_eq (cmp_row r (keyed n key))) rows (at_place ∙ e))
+        -- it is found where it compares as the same
+        pub row-told : found_at (then_some (compare_is_eq o) i) ≡ place_of (is_row n key) rows
+        row-told =
+            told_place (is_row n key) rows i (compare_is_eq o)
+            (λ e. ap some ei ∙ sym (place-rank ord_row (keyed n key) rows sorted (at_place ∙ e)) ∙ is-row)
+            (λ e. sym (sym is-row ∙ no_place (λ r. compare_is_eq (cmp_row r (keyed n key))) rows (at_place ∙ e)))

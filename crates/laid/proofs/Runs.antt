@@ -13,24 +13,28 @@ use mathlib.Core.List.{List, [], ◌∷◌, map}
 use lib.Dec.{compare_is_eq}
 use lib.ListN.{length, take, drop, get_or, length-drop, drop_of_length-le}
 use lib.Seq.{drop-cons}
+use Rattle.std.specs.Ordering.{is_eq}
+use Rattle.std.specs.declared.cmp.Ordering.{Ordering as Compared}
 use Rattle.values.specs.Basic.{is_lt, cmp_bytes, keep}
+use Rattle.values.specs.Meaning.{ordering}
 use Rattle.values.specs.Cell.{read_name}
 use Rattle.areas.specs.Records.{records}
 use Rattle.areas.specs.Search.{cmp_named, SearchIn}
 use Rattle.areas.specs.Counted.{count_at, Shrinks, shrunk}
 use Rattle.areas.specs.Sorted.{All, Sorted, count_of, Falls}
-use Rattle.values.proofs.Orders.{ord_bytes}
+use Rattle.values.proofs.Orders.{ord_bytes, is_eq-ordering}
 use Rattle.areas.proofs.Records.{length-records, part-record}
 use Rattle.areas.proofs.Halving.{count-le, count_same, falls-same, count_map, falls-map}
 use Rattle.areas.proofs.Changes.{map-remove-run}
 use Rattle.areas.proofs.Runs.{run_at, run_length, none_before, falls-keyed, keep-outside, keep_run}
 use Rattle.areas.proofs.Sorting.{in-keep}
 use Rattle.rules.specs.declared.profile.Profile.{Profile}
-use Rattle.rules.specs.Layout.{lists, Area, count_place, count_width, area_at, record_width, area_places, in_area}
+use Rattle.rules.specs.Layout.{lists, Area, Schemas, Rows, Entries, count_place, count_width, area_at, record_width, area_places, in_area}
 use Rattle.rules.proofs.Widths.{area-within}
-use Rattle.rules.proofs.Laid.{laid-length, laid-count, laid-few, laid-records, laid-shrinks, laid-shrunk}
-use Rattle.laid.specs.Catalog.{run_from, before, without_run, RunIn, RunOut}
+use Rattle.rules.proofs.Laid.{laid-header, laid-length, laid-count, laid-few, laid-records, laid-shrinks, laid-shrunk}
+use Rattle.laid.specs.Catalog.{run_from, before, without_run, RunIn, RunOut, AreaIs}
 use Rattle.laid.proofs.Columns.{rest}
+use Rattle.laid.proofs.Inside.{name-within}
 
 -- ---- counting
 
@@ -50,26 +54,25 @@ unfolding run_from
 run_none n rs i h = rw (drop_of_length-le rs h)
 
 module _ (n : List ℕ) (w count : ℕ) (s : List ℕ) (at : ℕ) where
-  pub run-start : at ≤ count → RunTo n w count s at at
-  run-start h = record { from = omega arith; within = h; run = omega arith }
-
   module _ (end : ℕ) (r : RunTo n w count s at end) where
-    pub run_past : count ≤ end → end - at ≡ run_from n (drop at (records w count s))
-    run_past h = let z = run_none n (records w count s) end (omega (arith, length-records w count s)) in omega (arith, r.run)
+    pub run_past : count ≤ end → count - at ≡ run_from n (drop at (records w count s))
+    run_past h = let z = run_none n (records w count s) end (omega (arith, length-records w count s)) in omega (arith, r.run, r.within)
 
-    module _ (l : end < count) (o : Ordering) (e : o ≡ cmp_named (take (end * w + w - end * w) (drop (end * w) s)) n) where
-      next : run_from n (drop end (records w count s)) ≡ cond (compare_is_eq o) (suc (run_from n (drop (suc end) (records w count s)))) 0
+    -- the record at `end`, which compares as o
+    module _ (l : end < count) (o : Compared) (e : ordering o ≡ cmp_named (take (end * w + w - end * w) (drop (end * w) s)) n) where
+      next : run_from n (drop end (records w count s)) ≡ cond (is_eq o) (suc (run_from n (drop (suc end) (records w count s)))) 0
       next =
-          run_step n (records w count s) end o (omega (arith, length-records w count s))
-          (e ∙ ap (λ (x : List ℕ). cmp_named x n) (part-record w count end s l))
+          rw (is_eq-ordering o)
+          (run_step n (records w count s) end (ordering o) (omega (arith, length-records w count s))
+          (e ∙ ap (λ (x : List ℕ). cmp_named x n) (part-record w count end s l)))
 
-      pub run_on : compare_is_eq o ≡ true → RunTo n w count s at (end + 1)
+      pub run_on : true ≡ is_eq o → RunTo n w count s at (end + 1)
       run_on t =
-          let g : run_from n (drop end (records w count s)) ≡ suc (run_from n (drop (end + 1) (records w count s))) = rw add-one (next ∙ rw t) in
+          let g : run_from n (drop end (records w count s)) ≡ suc (run_from n (drop (end + 1) (records w count s))) = rw add-one (next ∙ rw (← t)) in
           record { from = omega (arith, r.from); within = omega arith; run = omega (arith, r.run, r.from) }
 
-      pub run-over : compare_is_eq o ≡ false → end - at ≡ run_from n (drop at (records w count s))
-      run-over t = let g : run_from n (drop end (records w count s)) ≡ 0 = next ∙ rw t in omega (arith, r.run)
+      pub run-over : false ≡ is_eq o → end - at ≡ run_from n (drop at (records w count s))
+      run-over t = let g : run_from n (drop end (records w count s)) ≡ 0 = next ∙ rw (← t) in omega (arith, r.run)
 
 -- ---- the records of a sorted list
 
@@ -191,3 +194,22 @@ module _ (p : Profile) (R : ℕ) (a : Area) (n : List ℕ) (s : List ℕ) (r : R
             let e = run-ranked in
             let f : k ≡ run_from n (drop i (in_area a (lists p R s))) = ek ∙ ap (λ (x : List (List ℕ)). run_from n (drop i x)) read in
             rw (← e, ← f, et) (laid-shrunk p R s (lists p R s) r.laid a from w m ef ew em i k within)
+
+-- an area's numbers as the code hands them on
+module _ {p : Profile} {R : ℕ} {a : Area} {n s : List ℕ} (r : RunIn p R a n s) {cat k from m w : ℕ} (x : AreaIs p R a cat k from m w) where
+  pub run-counter : (k ≤ 8) × (cat + k ≤ length s)
+  run-counter = rw (x.counted, x.bytes) (by_area a)
+    where
+      by_area : (a : Area) → (count_width a ≤ 8) × (count_place a + count_width a ≤ length s)
+      by_area Schemas = (omega arith, omega (arith, laid-header p R s (lists p R s) r.laid))
+      by_area Rows = (omega arith, omega (arith, laid-header p R s (lists p R s) r.laid))
+      by_area Entries = (omega arith, omega (arith, laid-header p R s (lists p R s) r.laid))
+
+  pub run-start : from ≤ length s
+  run-start = area-start p R a n s r from w m x.start x.wide x.room
+
+  pub run-wide : 25 ≤ w
+  run-wide = omega (arith, x.wide, name-within p a)
+
+  pub run-counted : {count : ℕ} → count ≡ count_at cat k s → count ≡ count_at (count_place a) (count_width a) s
+  run-counted e = rw (← x.counted, ← x.bytes) e

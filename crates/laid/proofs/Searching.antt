@@ -6,17 +6,11 @@ use mathlib.Core.Option
 use mathlib.Core.Option.{none, some}
 use Prim.Native.Nat.{ℕ, ◌-◌, ◌≤◌, ◌<◌, Ordering}
 use native.Mathlib.Omega.{arith}
-use mathlib.Core.List.{List, [], ◌∷◌, map}
+use mathlib.Core.List.{List, [], map}
 use lib.Dec.{compare_is_eq}
 use lib.ListN.{length, take, drop, get_or, length-map, get_or-map}
-use types.Run.{OneOf}
-use mathlib.Core.Logic.{⊎_elim}
-use denote.Enum.Declared.{tag_of}
-use Rattle.values.specs.contracts.value.Order.{the_type}
-use Rattle.values.specs.declared.value.Order.{Order}
-use Rattle.values.specs.declared.value.Order.TheVariants.{Less, Same, More}
+use Rattle.std.specs.Bool.{then_some}
 use Rattle.values.specs.Basic.{is_lt, cmp_bytes, nth}
-use Rattle.values.specs.Meaning.{ordering}
 use Rattle.areas.specs.Records.{records}
 use Rattle.areas.specs.Search.{cmp_named, SearchIn}
 use Rattle.areas.specs.Sorted.{count_of, Falls}
@@ -29,30 +23,10 @@ use Rattle.rules.specs.Profile.{header_width, schema_width}
 use Rattle.rules.specs.State.{Table, cmp_table, is_named, table_named}
 use Rattle.rules.specs.Layout.{lists, Schemas, tables_count, read_table, parse, unknown}
 use Rattle.rules.specs.Schema.{key_kind, target_kind}
-use Rattle.laid.specs.Catalog.{TableBytes, Catalog, place_of}
+use Rattle.laid.specs.Catalog.{TableBytes, Catalog, place_of, found_at}
 use Rattle.laid.proofs.Inside.{area-lists, area-count, records-within}
-use Rattle.laid.proofs.Finding.{nth-map, nth-get_or, all-nth, falls-unmap, no_place, place_found, place-missing, place-rank}
+use Rattle.laid.proofs.Finding.{nth-map, nth-get_or, all-nth, falls-unmap, no_place, place_found, place-missing, place-rank, told_place}
 use Rattle.laid.proofs.Columns.{rest}
-
--- ---- the arms of a comparison's answer
-
--- an answer that is `Less`, and one that is not
-pub less-is : (r : Order) (o : Ordering) → ordering r ≡ o → r ≡ Less → true ≡ is_lt o
-less-is r o e h = sym (ap is_lt (sym e) ∙ ap (λ (q : Order). is_lt (ordering q)) h)
-
-pub less-not : (r : Order) (o : Ordering) → ordering r ≡ o → is_lt (ordering r) ≡ false → false ≡ is_lt o
-less-not r o e h = sym (ap is_lt (sym e) ∙ h)
-
-pub same-is : (r : Order) (o : Ordering) → ordering r ≡ o → r ≡ Same → compare_is_eq o ≡ true
-same-is r o e h = rw (← e, h)
-
-pub not_same : (r : Order) (o : Ordering) → ordering r ≡ o → OneOf (0 ∷ 2 ∷ []) (tag_of the_type r) → compare_is_eq o ≡ false
-not_same r o e h = rw (← e) (go r h)
-  where
-    go : (r : Order) → OneOf (0 ∷ 2 ∷ []) (tag_of the_type r) → compare_is_eq (ordering r) ≡ false
-    go Less h = refl
-    go Same h = absurd (⊎_elim (λ e. omega arith) (λ e. omega arith) h)
-    go More h = refl
 
 -- ---- the catalog
 
@@ -106,11 +80,12 @@ module _ (p : Profile) (R : ℕ) (s : List ℕ) where
             ∙ ap (λ (t : Table). compare_is_eq (cmp_table t (unknown n))) (ap (λ (ts : List Table). get_or ts i (read_table p [])) tables-read ∙ get_or-map (read_table p) (lists p R s).schemas i [] ∙ ap (read_table p) (sym er))
             ∙ ap compare_is_eq (sym eo)
 
-        pub table_here : compare_is_eq o ≡ true → some i ≡ place_of (is_named n) tables
-        table_here e = ap some ranked ∙ sym (place-rank ord_table (unknown n) tables c.sorted (at_place ∙ e))
-
-        pub table-elsewhere : compare_is_eq o ≡ false → none ≡ place_of (is_named n) tables
-        table-elsewhere e = sym (no_place (is_named n) tables (at_place ∙ e))
+        -- it is found where it compares as the same
+        pub table-told : found_at (then_some (compare_is_eq o) i) ≡ place_of (is_named n) tables
+        table-told =
+            told_place (is_named n) tables i (compare_is_eq o)
+            (λ e. ap some ranked ∙ sym (place-rank ord_table (unknown n) tables c.sorted (at_place ∙ e)))
+            (λ e. sym (no_place (is_named n) tables (at_place ∙ e)))
 
   -- a table by its place
   module _ (i : ℕ) (h : i < length (lists p R s).schemas) where

@@ -6,15 +6,14 @@ use Rattle.values.specs.Basic.{is_lt, nth}
 use Rattle.areas.specs.Sorted.{All, Sorted, count_of, Falls, remove_run}
 use Rattle.areas.specs.Search.{cmp_named}
 use Rattle.values.specs.declared.value.Text.{Text}
-use Rattle.values.specs.Meaning.{text_bytes, Packed}
+use Rattle.values.specs.Meaning.{text_bytes, Packed, option_of}
 use Rattle.rules.specs.declared.profile.Profile.{Profile}
 use Rattle.rules.specs.Profile.{schema_width}
 use Rattle.rules.specs.State.{Table, cmp_table}
-use Rattle.rules.specs.Layout.{lists, Laid, Area, in_area, with_area, table_record, read_table, parse}
+use Rattle.rules.specs.Layout.{lists, Laid, Area, count_place, count_width, area_at, record_width, area_places, in_area, with_area, table_record, read_table, parse}
 use Rattle.rules.specs.Sound.{good_table}
 use Rattle.laid.specs.Store.{Coded, Inside}
-use Rattle.laid.specs.declared.catalog.Found as F
-use Rattle.laid.specs.declared.catalog.Found.TheVariants.{At, Nothing}
+use Rattle.std.specs.declared.option.Option.{Option as Held}
 
 -- the bytes are a table's record
 pub record TableBytes (p : Profile) (rec : List ℕ) : Type 0 where
@@ -37,9 +36,8 @@ module _ {A : Type 0} where
   place_of q [] = none
   place_of q (x ∷ xs) = cond (q x) (some zero) (map suc (place_of q xs))
 
-abbrev pub found_at : F.Found → Option ℕ
-found_at (At i) = some i
-found_at Nothing = none
+abbrev pub found_at : Held ℕ → Option ℕ
+found_at = option_of
 
 -- ---- runs
 
@@ -64,6 +62,14 @@ pub record RunIn (p : Profile) (R : ℕ) (a : Area) (n : List ℕ) (s : List ℕ
 
 abbrev pub RunOut : Profile → ℕ → Area → List ℕ → List ℕ → List ℕ → Type 0
 RunOut p R a n s t = Laid p R t (with_area a (without_run n (in_area a (lists p R s))) (lists p R s))
+
+-- an area in numbers: where its records are counted and in how many bytes, where they start, how many have room, how wide they are
+pub record AreaIs (p : Profile) (R : ℕ) (a : Area) (cat k from places width : ℕ) : Type 0 where
+  pub counted : cat ≡ count_place a
+  pub bytes : k ≡ count_width a
+  pub start : from ≡ area_at p R a
+  pub room : places ≡ area_places p R a
+  pub wide : width ≡ record_width p a
 
 -- the name of the table at place i
 pub record TableName (p : Profile) (R : ℕ) (s : List ℕ) (i : ℕ) (t : Text) : Type 0 where

@@ -1,8 +1,9 @@
 -- A column as the code reads it. Assumes nothing.
-use Rattle.std.specs.Prelude.{◌≡◌, ℕ, ◌+◌, ◌*◌, List, Bool, take, drop}
-use Rattle.values.specs.Basic.{only_if, any}
+use Rattle.std.specs.Prelude.{◌≡◌, ℕ, ◌+◌, ◌*◌, List, Bool, take, drop, IfSome}
+use Rattle.std.proofs.Math.Option.{map}
+use Rattle.values.specs.Basic.{any}
 use Rattle.values.specs.Cell.{name_width}
-use Rattle.values.specs.Meaning.{text_bytes, Packed, held, ProperCell}
+use Rattle.values.specs.Meaning.{text_bytes, Packed, held, ProperCell, option_of}
 use Rattle.rules.specs.declared.profile.Profile.{Profile}
 use Rattle.rules.specs.Profile.{column_width}
 use Rattle.rules.specs.State as S
@@ -16,16 +17,16 @@ column_of c =
       name = text_bytes c.name;
       kind = c.kind;
       nullable = c.nullable;
-      default = only_if c.defaulted (held c.default);
+      default = map held (option_of c.default);
       unique = c.unique;
       index = c.index;
-      reference = only_if c.references (text_bytes c.reference);
+      reference = map text_bytes (option_of c.reference);
     }
 
 pub record ProperColumn (c : Column) : Type 0 where
   pub name : Packed c.name
-  pub default : ProperCell c.default
-  pub reference : Packed c.reference
+  pub default : IfSome c.default ProperCell
+  pub reference : IfSome c.reference Packed
 
 -- column i of a table record
 unfoldable pub column_at : Profile → List ℕ → ℕ → S.Column

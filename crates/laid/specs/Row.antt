@@ -1,5 +1,5 @@
--- A row in flight: eight cells and how many of them count. Assumes nothing.
-use Rattle.std.specs.Prelude.{◌≡◌, ℕ, ◌≤◌, ◌<◌, true, false, List, [], map, length, take}
+-- A row in flight: at most eight cells. Assumes nothing.
+use Rattle.std.specs.Prelude.{◌≡◌, ℕ, ◌≤◌, ◌<◌, true, false, List, [], map, length}
 use Rattle.std.proofs.Math.Option.{none, some}
 use Rattle.values.specs.Basic.{nth, or_default}
 use Rattle.values.specs.Value.{Value, null, same, normalised}
@@ -12,16 +12,14 @@ use Rattle.rules.specs.State.{Table, table_named, has_row, key_of, row_of}
 use Rattle.rules.specs.Layout.{parse, unknown}
 use Rattle.rules.specs.Step.{added, replaced, apply}
 use Rattle.rules.specs.Sound.{laid}
-use Rattle.laid.specs.declared.row.Row.{Row}
 
--- the values of its first cells
-unfoldable pub cells_of : Row → List Value
-cells_of r = map held (take r.count r.cells)
+-- its values
+unfoldable pub cells_of : List Cell → List Value
+cells_of r = map held r
 
-pub record ProperRow (r : Row) : Type 0 where
-  pub most : r.count ≤ 8
-  pub few : r.count ≤ length r.cells
-  pub proper : All ProperCell (take r.count r.cells)
+pub record ProperRow (r : List Cell) : Type 0 where
+  pub most : length r ≤ 8
+  pub proper : All ProperCell r
 
 -- the row at place i of a buffer
 abbrev pub no_row : S.Row
@@ -73,8 +71,8 @@ abbrev pub NormalCell : Cell → Type 0
 NormalCell c = normalised (held c) ≡ held c
 
 -- a full row for the table at place t
-pub record FullRow (p : Profile) (R : ℕ) (s : List ℕ) (t : ℕ) (r : Row) : Type 0 where
+pub record FullRow (p : Profile) (R : ℕ) (s : List ℕ) (t : ℕ) (r : List Cell) : Type 0 where
   pub known : t < length (parse p R s).tables
   pub proper : ProperRow r
-  pub full : r.count ≡ length (table_in p R s t).columns
-  pub normal : All NormalCell (take r.count r.cells)
+  pub full : length r ≡ length (table_in p R s t).columns
+  pub normal : All NormalCell r

@@ -3,7 +3,7 @@ use Rattle.std.specs.Prelude.{◌≡◌, true, ℕ, ◌*◌, ◌≤◌, List, le
 use Rattle.values.specs.Cell.{cell_width}
 use Rattle.areas.specs.Counted.{count_at}
 use Rattle.rules.specs.declared.profile.Profile.{Profile}
-use Rattle.rules.specs.declared.answer.Answer.{Answer}
+use Rattle.rules.specs.Request.{Answer}
 use Rattle.rules.specs.Profile.{places_most, store_length, Known, Indexed}
 use Rattle.rules.specs.Layout.{tables_count, rows_count, entries_count, image, parse}
 use Rattle.rules.specs.Request.{said}

@@ -1,18 +1,18 @@
 // Stored schemas: a table record's columns, and the place of a table (local.rs: `get_table`).
 ghost use Rattle.std.specs.Prelude.{◌≡◌, ◌+◌, ◌≤◌, ◌<◌, length, get_or};
-ghost use Rattle.values.specs.Cell.{name_width};
+ghost use Rattle.values.specs.Cell.{name_width, cell_width};
 ghost use Rattle.values.specs.Meaning.{text_bytes, Packed};
 ghost use Rattle.rules.specs.State.{is_named};
-ghost use Rattle.rules.specs.Layout.{bit, read_table, parse};
+ghost use Rattle.rules.specs.Layout.{bit, read_column, read_table, parse};
 ghost use Rattle.rules.specs.Schema.{key_kind};
-ghost use Rattle.laid.specs.Column.{ColumnRead};
+ghost use Rattle.laid.specs.Column.{column_at, ColumnRead};
 ghost use Rattle.laid.specs.Catalog.{TableBytes, Catalog, place_of, found_at};
 
 use super::layout;
-use areas::search;
+use areas::{area, search};
 use rules::profile::Profile;
 use values::cell;
-use values::value::{Cell, Order, Text};
+use values::value::{Cell, Text};
 
 #[derive(Clone, Copy)]
 pub struct Column {
@@ -21,17 +21,8 @@ pub struct Column {
     pub nullable: bool,
     pub unique: bool,
     pub index: bool,
-    pub defaulted: bool,
-    pub default: Cell,
-    pub references: bool,
-    pub reference: Text,
-}
-
-// Where something stands, if it is there.
-#[derive(Clone, Copy)]
-pub enum Found {
-    At(usize),
-    Nothing,
+    pub default: Option<Cell>,
+    pub reference: Option<Text>,
 }
 
 // Whether a flag is set.
@@ -42,24 +33,32 @@ fn flag(flags: u8, k: u8) -> bool
     flags / k % 2 == 1
 }
 
+// The bytes of column i of a table record.
+fn column_record(rec: &[u8], p: Profile, i: usize) -> &[u8]
+    requires { TableBytes p rec.now × (i < p.columns) }
+    ensures long { length result.now ≡ name_width + 2 + cell_width + name_width }
+    ensures read { read_column p result.now ≡ column_at p rec.now i }
+{
+    area::record_at(rec, layout::TABLE_COLUMNS, layout::column_width(p), i)
+}
+
 // Column i of a table record.
 pub fn read_column(rec: &[u8], p: Profile, i: usize) -> Column
     requires { TableBytes p rec.now × (i < p.columns) }
     ensures { ColumnRead p rec.now i result }
 {
-    let from = layout::TABLE_COLUMNS + i * layout::column_width(p);
-    let col = &rec[from..];
+    let col = column_record(rec, p, i);
     let flags = col[layout::COLUMN_FLAGS];
+    let default = cell::read_cell(&col[layout::COLUMN_DEFAULT..]);
+    let reference = cell::read_name(&col[layout::COLUMN_REFERENCE..]);
     Column {
         name: cell::read_name(col),
         kind: col[layout::COLUMN_KIND],
         nullable: flag(flags, layout::NULLABLE),
         unique: flag(flags, layout::UNIQUE),
         index: flag(flags, layout::INDEXED),
-        defaulted: flag(flags, layout::DEFAULTED),
-        default: cell::read_cell(&col[layout::COLUMN_DEFAULT..]),
-        references: flag(flags, layout::REFERENCES),
-        reference: cell::read_name(&col[layout::COLUMN_REFERENCE..]),
+        default: flag(flags, layout::DEFAULTED).then_some(default),
+        reference: flag(flags, layout::REFERENCES).then_some(reference),
     }
 }
 
@@ -68,30 +67,24 @@ pub fn key_kind(rec: &[u8], p: Profile) -> u8
     requires { TableBytes p rec.now }
     ensures { result ≡ key_kind (read_table p rec.now) }
 {
-    let key = rec[layout::TABLE_KEY] as usize;
-    let count = rec[layout::TABLE_COUNT] as usize;
-    if count <= key {
+    let key = key_column(rec);
+    if column_count(rec) <= key {
         return 0;
     }
-    let at = layout::TABLE_COLUMNS + key * layout::column_width(p) + layout::COLUMN_KIND;
-    rec[at]
+    column_record(rec, p, key)[layout::COLUMN_KIND]
 }
 
 // The place of the table with this name (local.rs: `get_table`).
-pub fn get_table(s: &[u8], p: Profile, places: usize, name: Text) -> Found
+pub fn get_table(s: &[u8], p: Profile, places: usize, name: Text) -> Option<usize>
     requires { Catalog p places s.now × Packed name }
     ensures { found_at result ≡ place_of (is_named (text_bytes name)) (parse p places s.now).tables }
 {
     let count = layout::table_count(s);
     let width = layout::schema_width(p);
     let i = search::named_before(&s[layout::HEADER_WIDTH..], count, width, name);
-    if count <= i {
-        return Found::Nothing;
-    }
-    match search::compare_named(layout::table_record(s, p, places, i), name) {
-        Order::Same => Found::At(i),
-        _ => Found::Nothing,
-    }
+    let found = i < count
+        && search::compare_named(layout::table_record(s, p, places, i), name).is_eq();
+    found.then_some(i)
 }
 
 // The key column of a table record.
@@ -99,7 +92,7 @@ pub fn key_column(rec: &[u8]) -> usize
     requires { 26 ≤ length rec.now }
     ensures { result ≡ get_or rec.now name_width 0 }
 {
-    rec[layout::TABLE_KEY] as usize
+    usize::from(rec[layout::TABLE_KEY])
 }
 
 // How many columns a table record has.
@@ -107,5 +100,5 @@ pub fn column_count(rec: &[u8]) -> usize
     requires { 27 ≤ length rec.now }
     ensures { result ≡ get_or rec.now (name_width + 1) 0 }
 {
-    rec[layout::TABLE_COUNT] as usize
+    usize::from(rec[layout::TABLE_COUNT])
 }

@@ -1,4 +1,6 @@
 // Where things stand in a store: widths and offsets of a profile, the header's counts, records by place.
+#![tactic(auto, unfolding(rules::specs::Profile::column_width, rules::specs::Profile::schema_width, rules::specs::Profile::row_width, rules::specs::Profile::entry_width, rules::specs::Profile::rows_at, rules::specs::Profile::entries_at, rules::specs::Profile::place_width, rules::specs::Profile::store_length))]
+
 ghost use Rattle.std.specs.Prelude.{◌≡◌, [], ◌≤◌, ◌<◌, length, get_or};
 ghost use Rattle.areas.specs.Counted.{count_at};
 ghost use Rattle.rules.specs.Profile.{header_width, column_width, schema_width, row_width, entry_width, rows_at, entries_at, place_width, store_length, places_most, Known};

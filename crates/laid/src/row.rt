@@ -11,22 +11,18 @@ ghost use Rattle.laid.specs.Store.{Coded, LaidStore};
 ghost use Rattle.laid.specs.Catalog.{place_of, found_at};
 ghost use Rattle.laid.specs.Row.{row_in, KeyColumn, keyed};
 
-use super::catalog::Found;
 use super::layout;
 use areas::search;
+use arrayvec::ArrayVec;
 use rules::profile::Profile;
 use values::cell;
-use values::value::{Cell, Order, Text, Value};
+use values::value::{Cell, Text, Value};
 
 // A row in flight has room for so many cells: document 01's columns.
 pub const CELLS_MOST: usize = 8;
 
 // The values of a row on their way into the store.
-#[derive(Clone, Copy)]
-pub struct Row {
-    pub cells: [Cell; CELLS_MOST],
-    pub count: usize,
-}
+pub type Row = ArrayVec<Cell, CELLS_MOST>;
 
 // Cell j of a row's record.
 pub fn cell_in(rec: &[u8], p: Profile, j: usize) -> Cell
@@ -63,17 +59,20 @@ pub fn rank_of(s: &[u8], p: Profile, places: usize, name: Text, column: usize, k
 }
 
 // The place of the row with this key.
-pub fn find_row(s: &[u8], p: Profile, places: usize, name: Text, column: usize, key: Value) -> Found
+pub fn find_row(
+    s: &[u8],
+    p: Profile,
+    places: usize,
+    name: Text,
+    column: usize,
+    key: Value,
+) -> Option<usize>
     requires { LaidStore p places s.now × KeyColumn p places s.now (text_bytes name) column × Packed name × Proper key }
     ensures { found_at result ≡ place_of (is_row (text_bytes name) (meaning key)) (parse p places s.now).rows }
 {
     let i = rank_of(s, p, places, name, column, key);
-    if layout::row_count(s) <= i {
-        return Found::Nothing;
-    }
     let at = cell::NAME_WIDTH + column * p.cell;
-    match search::compare_keyed(layout::row_record(s, p, places, i), name, at, key) {
-        Order::Same => Found::At(i),
-        _ => Found::Nothing,
-    }
+    let found = i < layout::row_count(s)
+        && search::compare_keyed(layout::row_record(s, p, places, i), name, at, key).is_eq();
+    found.then_some(i)
 }

@@ -21,6 +21,13 @@ pub enum Kept {
     Unsure,
 }
 
+// A file that is to be: its name, and the bytes that it is to have.
+#[derive(Clone, Copy)]
+pub struct After<'n, 'b> {
+    pub name: &'n str,
+    pub bytes: &'b [u8],
+}
+
 // The same of two files of which one goes first.
 #[derive(Clone, Copy)]
 enum InTurn {
@@ -108,20 +115,20 @@ fn remove(rt: &impl Files, name: &str) {
 }
 
 // Writes bytes to a new file beside AFTER, and answers its name, or none once the cause is said and no such file is left.
-fn write<R: Files + Eprint>(rt: &R, after: &str, s: &[u8]) -> Option<Name>
+fn write<R: Files + Eprint>(rt: &R, after: &After<'_, '_>) -> Option<Name>
     ensures room { IfSome result (λ name. array_string_len name ≤ 4095) }
-    ensures text { IfSome result (λ name. IsNewName after.now name.bytes) }
+    ensures text { IfSome result (λ name. IsNewName after.now.name.now name.bytes) }
 {
-    if LONGEST < after.len() {
-        say::complain(rt, after, "this name is too long");
+    if LONGEST < after.name.len() {
+        say::complain(rt, after.name, "this name is too long");
         return None;
     }
     let New {
         mut file,
         name,
         number: _,
-    } = make(rt, after)?;
-    match put(&mut file, s) {
+    } = make(rt, after.name)?;
+    match put(&mut file, after.bytes) {
         Ok(()) => Some(name),
         Err(e) => {
             say::complain(rt, name.as_str(), e);
@@ -179,11 +186,8 @@ fn goes_with<R: Files + Eprint>(rt: &R, one: &str, other: &str) -> bool
     requires one_len_bound { length one.now ≤ 4090 }
     requires other_len_bound { length other.now ≤ 4090 }
 {
-    let New { file, name, number } = match make(rt, one) {
-        Some(new) => new,
-        None => {
-            return false;
-        }
+    let Some(New { file, name, number }) = make(rt, one) else {
+        return false;
     };
     drop(file);
     let beside = put_name(other, number);
@@ -201,20 +205,15 @@ pub fn are_one<R: Files + Eprint>(rt: &R, one: &str, other: &str) -> bool {
 }
 
 // Whether there is room for new files with as many bytes beside both: they are made and removed again. Neither may stand where the other is to go.
-fn have_room<R: Files + Eprint>(
-    rt: &R,
-    store_after: &str,
-    s: &[u8],
-    journal_after: &str,
-    j: &[u8],
-) -> bool {
-    let store = is_there(rt, store_after);
-    let journal = is_there(rt, journal_after);
-    let Some(name) = write(rt, store_after, s) else {
+fn have_room<R: Files + Eprint>(rt: &R, store: &After<'_, '_>, journal: &After<'_, '_>) -> bool {
+    let store_there = is_there(rt, store.name);
+    let journal_there = is_there(rt, journal.name);
+    let Some(name) = write(rt, store) else {
         return false;
     };
-    let next = write(rt, journal_after, j);
-    let free = is_there(rt, store_after) == store && is_there(rt, journal_after) == journal;
+    let next = write(rt, journal);
+    let free = is_there(rt, store.name) == store_there
+        && is_there(rt, journal.name) == journal_there;
     remove(rt, name.as_str());
     let Some(next) = next else {
         return false;
@@ -223,7 +222,7 @@ fn have_room<R: Files + Eprint>(
     if !free {
         say::complain(
             rt,
-            journal_after,
+            journal.name,
             "this name or the store's is that of the new file beside the other",
         );
     }
@@ -241,39 +240,34 @@ pub struct Folders<F> {
 fn is_ready<R: Files + Eprint>(
     rt: &R,
     folders: &Folders<R::File>,
-    store_after: &str,
-    s: &[u8],
-    journal_after: &str,
-    j: &[u8],
+    store: &After<'_, '_>,
+    journal: &After<'_, '_>,
 ) -> bool {
-    if are_one(rt, store_after, journal_after) {
-        say::complain(rt, journal_after, "this is to hold the store");
+    if are_one(rt, store.name, journal.name) {
+        say::complain(rt, journal.name, "this is to hold the store");
         return false;
     }
-    if !have_room(rt, store_after, s, journal_after, j) {
-        return false;
-    }
-    settle(rt, store_after, &folders.store) && settle(rt, journal_after, &folders.journal)
+    have_room(rt, store, journal)
+        && settle(rt, store.name, &folders.store)
+        && settle(rt, journal.name, &folders.journal)
 }
 
 // Tries whether both can be kept, and answers their folders, or none once the cause is said.
 pub fn prepare<R: Files + Eprint>(
     rt: &R,
-    store_after: &str,
-    s: &[u8],
-    journal_after: &str,
-    j: &[u8],
+    store: &After<'_, '_>,
+    journal: &After<'_, '_>,
 ) -> Option<Folders<R::File>> {
-    if !may_replace(rt, store_after) || !may_replace(rt, journal_after) {
+    if !may_replace(rt, store.name) || !may_replace(rt, journal.name) {
         return None;
     }
-    let store = path::open_folder(rt, store_after);
-    let journal = path::open_folder(rt, journal_after);
+    let store_folder = path::open_folder(rt, store.name);
+    let journal_folder = path::open_folder(rt, journal.name);
     let folders = Folders {
-        store: store?,
-        journal: journal?,
+        store: store_folder?,
+        journal: journal_folder?,
     };
-    if is_ready(rt, &folders, store_after, s, journal_after, j) {
+    if is_ready(rt, &folders, store, journal) {
         Some(folders)
     } else {
         None
@@ -282,53 +276,42 @@ pub fn prepare<R: Files + Eprint>(
 
 // A new file takes AFTER's name, or is removed once the cause is said.
 fn put_in_place<R: Files + Eprint>(rt: &R, new: &str, after: &str) -> bool {
-    match fs::rename(rt, new, after) {
-        Ok(()) => true,
-        Err(e) => {
-            say::complain(rt, after, e);
-            remove(rt, new);
-            false
-        }
+    let named = say::or_complain(rt, after, fs::rename(rt, new, after)).is_some();
+    if !named {
+        remove(rt, new);
     }
+    named
 }
 
 // Whether the folder of a file that got its name is on the disk.
 fn settle<F: OpenFile>(rt: &impl Eprint, after: &str, folder: &F) -> bool {
-    match folder.sync_all() {
-        Ok(()) => true,
-        Err(e) => {
-            say::complain(rt, after, e);
-            false
-        }
-    }
+    say::or_complain(rt, after, folder.sync_all()).is_some()
 }
 
 // Puts bytes in the place of two files, the second once the first is on the disk.
 fn put_in_turn<R: Files + Eprint>(
     rt: &R,
-    first: &str,
+    first: &After<'_, '_>,
     folder: &R::File,
-    a: &[u8],
-    second: &str,
+    second: &After<'_, '_>,
     other: &R::File,
-    b: &[u8],
 ) -> InTurn {
-    let Some(name) = write(rt, first, a) else {
+    let Some(name) = write(rt, first) else {
         return InTurn::Neither;
     };
-    let Some(next) = write(rt, second, b) else {
+    let Some(next) = write(rt, second) else {
         remove(rt, name.as_str());
         return InTurn::Neither;
     };
-    if !put_in_place(rt, name.as_str(), first) {
+    if !put_in_place(rt, name.as_str(), first.name) {
         remove(rt, next.as_str());
         return InTurn::Neither;
     }
-    let settled = settle(rt, first, folder);
-    if !put_in_place(rt, next.as_str(), second) {
+    let settled = settle(rt, first.name, folder);
+    if !put_in_place(rt, next.as_str(), second.name) {
         return InTurn::First;
     }
-    if !settle(rt, second, other) || !settled {
+    if !settle(rt, second.name, other) || !settled {
         return InTurn::Unsure;
     }
     InTurn::Both
@@ -344,18 +327,14 @@ fn is_open(j: &[u8]) -> bool {
 pub fn replace<R: Files + Eprint>(
     rt: &R,
     folders: &Folders<R::File>,
-    store_after: &str,
-    s: &[u8],
-    journal_after: &str,
-    j: &[u8],
+    store: &After<'_, '_>,
+    journal: &After<'_, '_>,
 ) -> Kept {
-    let folder = &folders.store;
-    let other = &folders.journal;
-    let open = is_open(j);
+    let open = is_open(journal.bytes);
     let put = if open {
-        put_in_turn(rt, journal_after, other, j, store_after, folder, s)
+        put_in_turn(rt, journal, &folders.journal, store, &folders.store)
     } else {
-        put_in_turn(rt, store_after, folder, s, journal_after, other, j)
+        put_in_turn(rt, store, &folders.store, journal, &folders.journal)
     };
     match put {
         InTurn::Both => Kept::Yes,

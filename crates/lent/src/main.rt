@@ -9,15 +9,25 @@
 mod keep; // two files replaced whole
 
 use files::say;
-use keep::Kept;
+use keep::{After, Kept};
 use serve::End;
 use std::fs::File;
 use std::io;
 use std::io::Read;
 use std::rt::Files;
 
+// The five names of a case.
+#[derive(Clone, Copy)]
+struct Case<'a> {
+    store: &'a str,
+    journal: &'a str,
+    records: &'a str,
+    store_after: &'a str,
+    journal_after: &'a str,
+}
+
 // Says why not every record is answered, and answers whether all are.
-fn is_whole(rt: &impl Eprint, end: End, store: &str, records: &str) -> bool {
+fn is_whole(rt: &impl Eprint, end: End, case: &Case<'_>) -> bool {
     match end {
         End::Whole => {
             return true;
@@ -25,12 +35,12 @@ fn is_whole(rt: &impl Eprint, end: End, store: &str, records: &str) -> bool {
         End::Unsound => {
             say::complain(
                 rt,
-                store,
+                case.store,
                 "this is no sound store, or its journal is not sound",
             );
         }
         End::Unread(e) => {
-            say::complain(rt, records, e);
+            say::complain(rt, case.records, e);
         }
         End::Unwritten(e) | End::Unlogged(e) => {
             say::complain(rt, "standard output", e);
@@ -46,96 +56,63 @@ fn run<R: Files + Print + Eprint + AllocGlobal, F: Read>(
     s: &mut [u8],
     j: &mut [u8],
     from: &mut F,
-    store: &str,
-    records: &str,
-    store_after: &str,
-    journal_after: &str,
+    case: &Case<'_>,
 ) -> Kept {
-    let Some(folders) = keep::prepare(rt, store_after, s, journal_after, j) else {
+    let Some(folders) = keep::prepare(
+        rt,
+        &After {
+            name: case.store_after,
+            bytes: s,
+        },
+        &After {
+            name: case.journal_after,
+            bytes: j,
+        },
+    ) else {
         return Kept::No;
     };
     let report = serve::serve(s, j, from, &mut io::writer(rt), &mut None);
-    if !is_whole(rt, report.end, store, records) {
+    if !is_whole(rt, report.end, case) {
         return Kept::No;
     }
-    keep::replace(rt, &folders, store_after, s, journal_after, j)
+    keep::replace(
+        rt,
+        &folders,
+        &After {
+            name: case.store_after,
+            bytes: s,
+        },
+        &After {
+            name: case.journal_after,
+            bytes: j,
+        },
+    )
 }
 
-// The records that the third name stands for over a store and a journal that are read.
-fn answer<R: Files + Print + Eprint + AllocGlobal>(
-    rt: &R,
-    s: &mut [u8],
-    j: &mut [u8],
-    store: &str,
-    records: &str,
-    store_after: &str,
-    journal_after: &str,
-) -> Kept {
-    match File::open(rt, records) {
-        Ok(mut from) => run(
-            rt,
-            s,
-            j,
-            &mut from,
-            store,
-            records,
-            store_after,
-            journal_after,
-        ),
-        Err(e) => {
-            say::complain(rt, records, e);
-            Kept::No
-        }
-    }
+// Opens a file for reading, or says why it can't be.
+fn open<R: Files + Eprint>(rt: &R, name: &str) -> Option<R::File> {
+    say::or_complain(rt, name, File::open(rt, name))
 }
 
-// The bytes of two open files as store and journal, read into slices.
+// The bytes of two open files as store and journal, read into slices, and the records over them.
 fn take<R: Files + Print + Eprint + AllocGlobal>(
     rt: &R,
     file: &mut R::File,
     s: &mut [u8],
     page: &mut R::File,
     j: &mut [u8],
-    store: &str,
-    journal: &str,
-    records: &str,
-    store_after: &str,
-    journal_after: &str,
+    case: &Case<'_>,
 ) -> Kept {
-    let n = match files::load(file, s) {
-        Ok(n) => n,
-        Err(e) => {
-            say::complain(rt, store, e);
-            return Kept::No;
-        }
+    let Some(n) = say::or_complain(rt, case.store, files::load(file, s)) else {
+        return Kept::No;
     };
-    let m = match files::load(page, j) {
-        Ok(m) => m,
-        Err(e) => {
-            say::complain(rt, journal, e);
-            return Kept::No;
-        }
+    let Some(m) = say::or_complain(rt, case.journal, files::load(page, j)) else {
+        return Kept::No;
     };
-    answer(
-        rt,
-        &mut s[0..n],
-        &mut j[0..m],
-        store,
-        records,
-        store_after,
-        journal_after,
-    )
-}
-
-// Opens a file for reading, or says why it can't be.
-fn open<R: Files + Eprint>(rt: &R, name: &str) -> Option<R::File> {
-    match File::open(rt, name) {
-        Ok(file) => Some(file),
-        Err(e) => {
-            say::complain(rt, name, e);
-            None
-        }
-    }
+    let Some(mut from) = open(rt, case.records) else {
+        return Kept::No;
+    };
+    run(rt, &mut s[0..n], &mut j[0..m], &mut from, case)
 }
 
 // The same in rooms with a byte more than the largest store and the largest journal have, so that a longer file is neither. Their types say their
@@ -146,55 +123,22 @@ fn lend<R: Files + Print + Eprint + AllocGlobal>(
     room: &mut [u8; 3201213],
     page: &mut R::File,
     pages: &mut [u8; 1916932],
-    store: &str,
-    journal: &str,
-    records: &str,
-    store_after: &str,
-    journal_after: &str,
+    case: &Case<'_>,
 ) -> Kept {
-    take(
-        rt,
-        file,
-        room,
-        page,
-        pages,
-        store,
-        journal,
-        records,
-        store_after,
-        journal_after,
-    )
+    take(rt, file, room, page, pages, case)
 }
 
-// Five names.
-fn case<R: Files + Print + Eprint + AllocGlobal>(
-    rt: &R,
-    store: &str,
-    journal: &str,
-    records: &str,
-    store_after: &str,
-    journal_after: &str,
-) -> Kept {
-    let Some(mut file) = open(rt, store) else {
+// A case, carried out.
+fn carry_out<R: Files + Print + Eprint + AllocGlobal>(rt: &R, case: &Case<'_>) -> Kept {
+    let Some(mut file) = open(rt, case.store) else {
         return Kept::No;
     };
-    let Some(mut page) = open(rt, journal) else {
+    let Some(mut page) = open(rt, case.journal) else {
         return Kept::No;
     };
     let mut room = [0u8; 3201213];
     let mut pages = [0u8; 1916932];
-    lend(
-        rt,
-        &mut file,
-        &mut room,
-        &mut page,
-        &mut pages,
-        store,
-        journal,
-        records,
-        store_after,
-        journal_after,
-    )
+    lend(rt, &mut file, &mut room, &mut page, &mut pages, case)
 }
 
 // The last line where it was not done: what is with the one file, and with the other.
@@ -202,7 +146,12 @@ fn tell(rt: &impl Eprint, one: &str, and: &str, other: &str, what: &str) {
     let _said = eprintln!(rt; "lent: not done: {one}{and}{other}{what}");
 }
 
-fn tell_kept(rt: &impl Eprint, kept: Kept, store_after: &str, journal_after: &str) {
+fn tell_kept(rt: &impl Eprint, kept: Kept, case: &Case<'_>) {
+    let Case {
+        store_after,
+        journal_after,
+        ..
+    } = *case;
     match kept {
         Kept::Yes => {}
         Kept::No => {
@@ -238,26 +187,18 @@ fn tell_kept(rt: &impl Eprint, kept: Kept, store_after: &str, journal_after: &st
     }
 }
 
-// The case that five arguments name.
-fn run_case<R: Files + Print + Eprint + AllocGlobal>(
-    rt: &R,
-    store: &str,
-    journal: &str,
-    records: &str,
-    store_after: &str,
-    journal_after: &str,
-) {
-    if !files::is_name(store)
-        || !files::is_name(journal)
-        || !files::is_name(records)
-        || !files::is_name(store_after)
-        || !files::is_name(journal_after)
+// A case, and what is said of it, if its names are names.
+fn run_case<R: Files + Print + Eprint + AllocGlobal>(rt: &R, case: &Case<'_>) {
+    if !files::is_name(case.store)
+        || !files::is_name(case.journal)
+        || !files::is_name(case.records)
+        || !files::is_name(case.store_after)
+        || !files::is_name(case.journal_after)
     {
         say::tell_undone(rt, "lent", "", "a name is empty or too long");
         return;
     }
-    let kept = case(rt, store, journal, records, store_after, journal_after);
-    tell_kept(rt, kept, store_after, journal_after);
+    tell_kept(rt, carry_out(rt, case), case);
 }
 
 const USAGE: &str = "usage: lent STORE JOURNAL RECORDS STORE_AFTER JOURNAL_AFTER [five more ..]
@@ -284,7 +225,14 @@ fn run_all<R: Files + Print + Eprint + AllocGlobal>(rt: &R, names: &[String]) {
         return;
     }
     for five in names.chunks_exact(5) {
-        run_case(rt, &five[0], &five[1], &five[2], &five[3], &five[4]);
+        let case = Case {
+            store: &five[0],
+            journal: &five[1],
+            records: &five[2],
+            store_after: &five[3],
+            journal_after: &five[4],
+        };
+        run_case(rt, &case);
     }
 }
 

@@ -1,49 +1,48 @@
 -- The pairs of an update one after the other, and a row read value by value. Assumes nothing.
+use Rattle.forms.specs.Read.{ReadCell}
+use Rattle.records.specs.Walked.{Walked}
+use Rattle.std.specs.declared.result.Result.TheVariants.{Ok, Err}
+use Rattle.forms.specs.declared.read.Broken.{Broken}
 use Prim.Native.Nat.{ℕ, zero, suc, ◌+◌, ◌-◌, ◌≤◌, ◌<◌}
-use mathlib.Core.Path.{◌≡◌, refl, sym, ap, ◌∙◌, subst}
-use mathlib.Core.Bool.{true, false}
-use mathlib.Core.List.{List, [], ◌∷◌, ◌++◌, map, map-append, append-nil, append_assoc}
-use mathlib.Core.Option.{none, some}
-use native.Mathlib.Nat.{sub-zero}
+use mathlib.Core.Path.{◌≡◌, refl, sym, ap, ◌∙◌}
+use mathlib.Core.Bool.{Bool, true, false, cond}
+use mathlib.Core.List.{List, [], ◌∷◌, ◌++◌, map-append, append-nil, append_assoc}
+use mathlib.Core.Option.{Option, none, some}
 use native.Mathlib.Omega.{arith}
 use native.Mathlib.Numerals.{add-one, sub-one}
-use lib.ListN.{length, get_or, take, set, length-map, length-set}
-use lib.Seq.{length-take-le, take-suc-set}
+use lib.ListN.{length, length-map, length-append, get_or}
 use borrow.Author.Tests.{eq-eqb, ne_eqb}
-use Rattle.values.specs.Value.{Value, before}
-use Rattle.values.specs.Meaning.{held, ProperCell}
+use Rattle.values.specs.Value.{Value, before, cmp_value}
+use Rattle.values.specs.Meaning.{held, ProperCell, ordering}
+use Rattle.std.specs.Ordering.{is_lt}
+use Rattle.std.specs.declared.cmp.Ordering.{Ordering as Compared}
+use Rattle.std.specs.declared.cmp.Ordering.TheVariants.{Less, Equal, Greater}
 use Rattle.areas.specs.Sorted.{All}
 use Rattle.forms.specs.Read.{Read, got, broken, value_at, cell_read, CellRead}
 use Rattle.values.specs.declared.value.Cell.{Cell}
-use Rattle.forms.specs.declared.read.ReadCell.{ReadCell}
-use Rattle.forms.specs.declared.read.ReadCell.TheVariants.{Got, Broken}
-use Rattle.rules.specs.declared.answer.Refusal.TheVariants.{KeysNotRising, RowSize}
+use Rattle.rules.specs.Refusal.{KeysNotRising, RowSize}
 use Rattle.rules.specs.State.{Table}
 use Rattle.rules.specs.Request.{Pair}
 use Rattle.rules.specs.Schema.{Fault}
 use Rattle.rules.specs.Rows.{rising_fault, size_fault}
-use Rattle.checks.specs.Keys.{values_from}
 use Rattle.laid.specs.Row.{cells_of, ProperRow}
-use Rattle.records.specs.declared.record.Walked.{Walked}
-use Rattle.records.specs.declared.record.Walked.TheVariants.{Ends, Breaks}
 use Rattle.records.specs.Reading.{times}
 use Rattle.mapping.specs.Got.{is_got, got_or}
 use Rattle.records.specs.Walked.{walked_as}
 use Rattle.records.specs.Record.{values_at, pair_at}
 use Rattle.mapping.specs.Mapped.{pairs_at}
-use Rattle.checks.proofs.KeysRead.{values-end, values-got, values-broken}
-use Rattle.mapping.proofs.ValuesFrom.{was-got, got-is, got-gives, parted, Headed, headed, cell-proper, values-there}
+use Rattle.mapping.proofs.ValuesFrom.{was-got, got-is, got-gives, parted, Headed, headed, values-there}
 
 -- ---- what a walk and a reading say where the reading did not break
 
 module _ {A : Type 0} (w : Read A) (a : A) (e : ℕ) (h : w ≡ got a e) (r : Walked) (k : r ≡ walked_as w) where
-  walked_end : (n : ℕ) → r ≡ Ends n → n ≡ e
+  walked_end : (n : ℕ) → r ≡ Ok n → n ≡ e
   unfolding walked_as
-  walked_end n t = let z : r ≡ Ends e = k ∙ rw h in cc
+  walked_end n t = let z : r ≡ Ok e = k ∙ rw h in cc
 
-  walked-never : (x : ℕ) → r ≡ Breaks x → ⊥
+  walked-never : (x : Broken) → r ≡ Err x → ⊥
   unfolding walked_as
-  walked-never x t = let u : r ≡ Ends e = k ∙ rw h in let z : ◌≡◌ {A = ℕ} 0 1 = cc in omega arith
+  walked-never x t = let u : r ≡ Ok e = k ∙ rw h in let z : ◌≡◌ {A = ℕ} 0 1 = cc in omega arith
 
 -- ---- the first of n pairs, and the others
 
@@ -104,36 +103,38 @@ unfolding pairs_at times got_or
 pairs-none s zero q l = refl
 pairs-none s (suc m) q l = absurd (omega arith)
 
--- ---- 35: from pair i on, where v is the old key before it
+-- ---- 35: from pair i on, where o is the old key before it
 
-unfoldable pub rising_from : ℕ → Value → List Pair → Fault
-rising_from zero v qs = rising_fault 0 qs
-rising_from (suc j) v qs = rising_fault j (record { old = v; row = [] } ∷ qs)
+unfoldable pub rising_after : Option Value → ℕ → List Pair → Fault
+rising_after none i qs = rising_fault i qs
+rising_after (some v) i [] = none
+rising_after (some v) i (x ∷ qs) = cond (before v x.old) (rising_fault i (x ∷ qs)) (some (KeysNotRising, i))
 
-pub rising-start : (v : Value) (qs : List Pair) → rising_from 0 v qs ≡ rising_fault 0 qs
-unfolding rising_from
-rising-start v qs = refl
+pub rising_none : (o : Option Value) (i : ℕ) → none ≡ rising_after o i []
+unfolding rising_after rising_fault
+rising_none none i = refl
+rising_none (some v) i = refl
 
-pub rising_none : (i : ℕ) (v : Value) → rising_from i v [] ≡ none
-unfolding rising_from rising_fault
-rising_none zero v = refl
-rising_none (suc j) v = refl
+first_told : (i : ℕ) (x : Pair) (qs : List Pair) → rising_fault i (x ∷ qs) ≡ rising_after (some x.old) (i + 1) qs
+unfolding rising_after rising_fault
+first_told i x [] = refl
+first_told i x (u ∷ qs) = rw (add-one i) refl
 
--- a row does not matter
-rowless : (j : ℕ) (x : Pair) (qs : List Pair) → rising_fault j (x ∷ qs) ≡ rising_fault j (record { old = x.old; row = [] } ∷ qs)
-unfolding rising_fault
-rowless j x [] = refl
-rowless j x (u ∷ qs) = refl
+rising-next : (o : Option Value) (i : ℕ) (x : Pair) (qs : List Pair) → ((v : Value) → o ≡ some v → before v x.old ≡ true)
+    → rising_after o i (x ∷ qs) ≡ rising_after (some x.old) (i + 1) qs
+unfolding rising_after
+rising-next none i x qs h = first_told i x qs
+rising-next (some v) i x qs h = rw (h v refl) (first_told i x qs)
 
-rising-next : (i : ℕ) (v : Value) (x : Pair) (qs : List Pair) → (0 < i → before v x.old ≡ true) → rising_from i v (x ∷ qs) ≡ rising_from (i + 1) x.old qs
-unfolding rising_from rising_fault
-rising-next zero v x qs h = rowless 0 x qs
-rising-next (suc j) v x qs h = rw (add-one (suc j), h (omega arith)) (rowless (suc j) x qs)
+rising-stop : (v : Value) (i : ℕ) (x : Pair) (qs : List Pair) → before v x.old ≡ false → rising_after (some v) i (x ∷ qs) ≡ some (KeysNotRising, i)
+unfolding rising_after
+rising-stop v i x qs h = rw h
 
-rising-stop : (i : ℕ) (v : Value) (x : Pair) (qs : List Pair) → 0 < i → before v x.old ≡ false → rising_from i v (x ∷ qs) ≡ some (KeysNotRising, i)
-unfolding rising_from rising_fault
-rising-stop zero v x qs l h = absurd (omega arith)
-rising-stop (suc j) v x qs l h = rw h
+-- what the code's comparing says
+pub before-told : (r : Compared) (v w : Value) (b : Bool) → ordering r ≡ cmp_value v w → b ≡ is_lt r → before v w ≡ b
+before-told Less v w b e h = rw (← e) (sym h)
+before-told Equal v w b e h = rw (← e) (sym h)
+before-told Greater v w b e h = rw (← e) (sym h)
 
 -- ---- 25
 
@@ -153,10 +154,10 @@ module _ (t : Table) (i : ℕ) (x : Pair) (qs : List Pair) where
 -- ---- a pair that stands at q, of those that are left
 
 module _ (s : List ℕ) (left q : ℕ) (g : PairThere s left q) where
-  pub key-end : (r : Walked) (a : ℕ) → r ≡ walked_as (value_at s q) → r ≡ Ends a → a ≡ g.mid
+  pub key-end : (r : Walked) (a : ℕ) → r ≡ walked_as (value_at s q) → r ≡ Ok a → a ≡ g.mid
   key-end r a k t = walked_end (value_at s q) g.head.old g.mid g.key r k a t
 
-  pub key-never : (r : Walked) (x : ℕ) → r ≡ walked_as (value_at s q) → r ≡ Breaks x → ⊥
+  pub key-never : (r : Walked) (x : Broken) → r ≡ walked_as (value_at s q) → r ≡ Err x → ⊥
   key-never r x k t = walked-never (value_at s q) g.head.old g.mid g.key r k x t
 
   -- the row stands at a
@@ -164,10 +165,10 @@ module _ (s : List ℕ) (left q : ℕ) (g : PairThere s left q) where
     at_row : values_at s a ≡ got g.head.row g.next
     at_row = ap (values_at s) ea ∙ g.values
 
-    pub row-end : (r : Walked) (e : ℕ) → r ≡ walked_as (values_at s a) → r ≡ Ends e → e ≡ g.next
+    pub row-end : (r : Walked) (e : ℕ) → r ≡ walked_as (values_at s a) → r ≡ Ok e → e ≡ g.next
     row-end r e k t = walked_end (values_at s a) g.head.row g.next at_row r k e t
 
-    pub row-never : (r : Walked) (x : ℕ) → r ≡ walked_as (values_at s a) → r ≡ Breaks x → ⊥
+    pub row-never : (r : Walked) (x : Broken) → r ≡ walked_as (values_at s a) → r ≡ Err x → ⊥
     row-never r x k t = walked-never (values_at s a) g.head.row g.next at_row r k x t
 
     module _ (t : Table) (i : ℕ) (z : Fault) (inv : size_fault t i (pairs_at s left q) ≡ z) where
@@ -187,13 +188,13 @@ module _ (s : List ℕ) (left q : ℕ) (g : PairThere s left q) where
 
   -- r is what was read at q
   module _ (r : ReadCell) (er : CellRead s q r) where
-    pub old-never : (x : ℕ) → r ≡ Broken x → ⊥
+    pub old-never : (x : Broken) → r ≡ Err x → ⊥
     old-never x t =
-        let u : broken x ≡ got g.head.old g.mid = sym (ap cell_read t) ∙ er.is ∙ g.key in
+        let u : broken x.at ≡ got g.head.old g.mid = sym (ap cell_read t) ∙ er.is ∙ g.key in
         let z : ◌≡◌ {A = ℕ} 0 1 = cc in
         omega arith
 
-    module _ (c : Cell) (n : ℕ) (t : r ≡ Got c n) where
+    module _ (c : Cell) (n : ℕ) (t : r ≡ Ok (c, n)) where
       old-read : got (held c) n ≡ got g.head.old g.mid
       old-read = sym (ap cell_read t) ∙ er.is ∙ g.key
 
@@ -203,70 +204,57 @@ module _ (s : List ℕ) (left q : ℕ) (g : PairThere s left q) where
       pub old-end : n ≡ g.mid
       old-end = let u = old-read in cc
 
-      module _ (i : ℕ) (v : Value) (z : Fault) (inv : rising_from i v (pairs_at s left q) ≡ z) where
-        pub rising-over : 0 < i → before v (held c) ≡ false → some (KeysNotRising, i) ≡ z
-        rising-over l h =
-            sym (rising-stop i v g.head (pairs_at s (left - 1) g.next) l (ap (before v) (sym old-is) ∙ h))
-            ∙ ap (rising_from i v) (sym g.all) ∙ inv
+      module _ (i : ℕ) (o : Option Value) (z : Fault) (inv : rising_after o i (pairs_at s left q) ≡ z) where
+        pub rising-over : (v : Value) → o ≡ some v → before v (held c) ≡ false → some (KeysNotRising, i) ≡ z
+        rising-over v e h =
+            let a : rising_after (some v) i (g.head ∷ pairs_at s (left - 1) g.next) ≡ some (KeysNotRising, i) =
+            rising-stop v i g.head (pairs_at s (left - 1) g.next) (ap (before v) (sym old-is) ∙ h) in
+            sym a ∙ ap (λ (p : Option Value). rising_after p i (g.head ∷ pairs_at s (left - 1) g.next)) (sym e) ∙ ap (rising_after o i) (sym g.all) ∙ inv
 
-        pub rising-again : (e : ℕ) → e ≡ g.next → (0 < i → before v (held c) ≡ true) → rising_from (i + 1) (held c) (pairs_at s (left - 1) e) ≡ z
+        pub rising-again : (e : ℕ) → e ≡ g.next → ((v : Value) → o ≡ some v → before v (held c) ≡ true)
+            → rising_after (some (held c)) (i + 1) (pairs_at s (left - 1) e) ≡ z
         rising-again e ee h =
-            ap (λ (m : ℕ). rising_from (i + 1) (held c) (pairs_at s (left - 1) m)) ee
-            ∙ ap (λ (w : Value). rising_from (i + 1) w (pairs_at s (left - 1) g.next)) old-is
-            ∙ sym (rising-next i v g.head (pairs_at s (left - 1) g.next) (λ l. ap (before v) (sym old-is) ∙ h l))
-            ∙ ap (rising_from i v) (sym g.all) ∙ inv
+            ap (λ (m : ℕ). rising_after (some (held c)) (i + 1) (pairs_at s (left - 1) m)) ee
+            ∙ ap (λ (w : Value). rising_after (some w) (i + 1) (pairs_at s (left - 1) g.next)) old-is
+            ∙ sym (rising-next o i g.head (pairs_at s (left - 1) g.next) (λ v l. ap (before v) (sym old-is) ∙ h v l))
+            ∙ ap (rising_after o i) (sym g.all) ∙ inv
 
--- ---- a row: i cells are read, and the values from `next` on are left
+-- ---- a row of the values vs: `row` is read, and `rest` is left
 
-pub record SoFar (s : List ℕ) (at count : ℕ) (cells : List Cell) (i next : ℕ) : Type 0 where
-  pub inside : i ≤ count
-  pub long : length cells ≡ 8
-  pub is : map held (take i cells) ++ values_from s (count - i) next ≡ values_from s count at
-  pub proper : All ProperCell (take i cells)
+pub record SoFar (vs : List Value) (row : List Cell) (rest : List Value) : Type 0 where
+  pub is : cells_of row ++ rest ≡ vs
+  pub proper : All ProperCell row
 
-pub so-far-none : (s : List ℕ) (at count : ℕ) (cells : List Cell) → length cells ≡ 8 → SoFar s at count cells 0 at
-so-far-none s at count cells l = record { inside = omega arith; long = l; is = rw (sub-zero count); proper = tt }
+pub so-far-none : (vs : List Value) → SoFar vs [] vs
+unfolding cells_of
+so-far-none vs = record { is = refl; proper = tt }
 
 pub all_more : {A : Type 0} (P : A → Type 0) (xs : List A) (x : A) → All P xs → P x → All P (xs ++ (x ∷ []))
 all_more P [] x h p = (p, tt)
 all_more P (y ∷ ys) x h p = (h.0, all_more P ys x h.1 p)
 
-module _ (s : List ℕ) (at count : ℕ) (cells : List Cell) (i next : ℕ) (f : SoFar s at count cells i next) (most : count ≤ 8) where
-  -- one more
-  module _ (l : i < count) (r : ReadCell) (e : CellRead s next r) where
-    pub so-far-next : (c : Cell) (n : ℕ) → r ≡ Got c n → (cells' : List Cell) (next' : ℕ) → cells' ≡ set cells i c → next' ≡ n
-        → SoFar s at count cells' (i + 1) next'
-    so-far-next c n t cells' next' ec en =
-        let b : i < length cells = omega (arith, f.long) in
-        let u : take (i + 1) (set cells i c) ≡ take i cells ++ (c ∷ []) = rw (add-one i) (take-suc-set cells i c b) in
-        let m : count - (i + 1) ≡ count - i - 1 = omega arith in
-        rw (ec, en)
-        (record {
-          inside = omega arith;
-          long = length-set cells i c ∙ f.long;
-          is =
-              rw (u, m, map-append held (take i cells) (c ∷ []), append_assoc (map held (take i cells)) (held c ∷ []) (values_from s (count - i - 1) n))
-              (ap (λ (vs : List Value). map held (take i cells) ++ vs) (sym (values-got s (count - i) next r e (omega arith) c n t)) ∙ f.is);
-          proper = rw u (all_more ProperCell (take i cells) c f.proper (cell-proper s (count - i) next r e c n t));
-        })
+module _ {vs : List Value} {row : List Cell} {rest : List Value} (f : SoFar vs row rest) where
+  so-far-count : length row + length rest ≡ length vs
+  unfolding cells_of
+  so-far-count = sym (length-append (cells_of row) rest ∙ ap (λ (n : ℕ). n + length rest) (length-map row held)) ∙ ap length f.is
 
-    pub so-far-never : length (values_from s count at) ≡ count → (x : ℕ) → r ≡ Broken x → ⊥
-    so-far-never whole x t =
-        let k : length (map held (take i cells)) ≡ i = length-map (take i cells) held ∙ length-take-le i cells (omega (arith, f.long)) in
-        let v : map held (take i cells) ++ [] ≡ values_from s count at =
-        ap (λ (vs : List Value). map held (take i cells) ++ vs) (sym (values-broken s (count - i) next r e x t)) ∙ f.is in
-        let w : length (map held (take i cells)) ≡ count = ap length (sym (append-nil (map held (take i cells))) ∙ v) ∙ whole in
-        omega arith
+  module _ (c : Cell) (others : List Value) (e : rest ≡ held c ∷ others) where
+    -- there is room for one more
+    pub so-far-room : length vs ≤ 8 → length row < 8
+    so-far-room h = omega (arith, so-far-count, ap length e)
+
+    pub so-far-next : ProperCell c → SoFar vs (row ++ (c ∷ [])) others
+    unfolding cells_of
+    so-far-next p =
+        record {
+          is =
+              rw (map-append held row (c ∷ []), append_assoc (cells_of row) (held c ∷ []) others)
+              (ap (λ (xs : List Value). cells_of row ++ xs) (sym e) ∙ f.is);
+          proper = all_more ProperCell row c f.proper p;
+        }
 
   -- all of them
-  pub so-far-all : count ≤ i → (cells_of (record { cells = cells; count = count }) ≡ values_from s count at) × ProperRow (record { cells = cells; count = count })
-  unfolding cells_of
-  so-far-all l =
-      let e : i ≡ count = omega (arith, f.inside) in
-      let v : map held (take i cells) ≡ values_from s count at =
-      sym (append-nil (map held (take i cells)))
-      ∙ ap (λ (vs : List Value). map held (take i cells) ++ vs) (sym (values-end s (count - i) next (λ h. omega arith)))
-      ∙ f.is in (
-        ap (λ (n : ℕ). map held (take n cells)) (sym e) ∙ v,
-        record { most = most; few = omega (arith, f.long); proper = subst (λ (n : ℕ). All ProperCell (take n cells)) e f.proper },
-      )
+  pub so-far-all : rest ≡ [] → length vs ≤ 8 → (cells_of row ≡ vs) × ProperRow row × (length row ≡ length vs)
+  so-far-all e h =
+      let n : length row ≡ length vs = omega (arith, so-far-count, ap length e) in
+      (sym (append-nil (cells_of row)) ∙ ap (λ (xs : List Value). cells_of row ++ xs) (sym e) ∙ f.is, record { most = omega arith; proper = f.proper }, n)

@@ -1,9 +1,11 @@
 -- Readings that did not break, taken apart; and the values from a position on: one more of them, and that they are what n readings in a row give.
 -- Assumes nothing.
+use Rattle.forms.specs.Read.{ReadCell}
+use Rattle.std.specs.declared.result.Result.TheVariants.{Ok}
 use Prim.Native.Nat.{ℕ, zero, suc, ◌+◌, ◌-◌, ◌≤◌, ◌<◌}
 use mathlib.Core.Path.{◌≡◌, refl, sym, ap, ◌∙◌, subst}
 use mathlib.Core.Bool.{Bool, true, false, cond, true≢false}
-use mathlib.Core.List.{List, [], ◌∷◌}
+use mathlib.Core.List.{List, [], ◌∷◌, ◌++◌, map}
 use mathlib.Core.Option.{none, some}
 use native.Mathlib.Numerals.{sub-one}
 use native.Mathlib.Omega.{arith}
@@ -13,10 +15,16 @@ use borrow.Author.Tests.{leb-false}
 use Rattle.values.specs.Meaning.{ProperCell}
 use Rattle.forms.specs.Read.{Read, got, broken, value_at, CellRead, ProperRead}
 use Rattle.values.specs.Value.{Value}
-use Rattle.forms.specs.declared.read.ReadCell.TheVariants.{Got}
-use Rattle.forms.specs.declared.read.ReadCell.{ReadCell}
 use Rattle.values.specs.declared.value.Cell.{Cell}
-use Rattle.checks.specs.Keys.{on_read, values_from}
+use Rattle.checks.specs.Keys.{on_read, values_from, values_of, FirstValue}
+use Rattle.checks.specs.declared.keys.Values.{Values}
+use Rattle.std.specs.Iterator.{Yields}
+use Rattle.std.specs.Option.{MatchOption, IfSome}
+use Rattle.std.specs.declared.option.Option.{Option as Held}
+use Rattle.std.specs.declared.option.Option.TheVariants.{None, Some}
+use Rattle.values.specs.Meaning.{held}
+use Rattle.values.specs.Basic.{nth}
+use Rattle.mapping.specs.Mapped.{given_of}
 use Rattle.mapping.specs.Got.{is_got, got_or}
 use Rattle.records.specs.Reading.{and_then, times, flagged, byte_at, byte_from}
 use Rattle.records.specs.Record.{values_at}
@@ -188,7 +196,7 @@ from-got low high s at h =
 
 -- r is what was read at `next`
 module _ (s : List ℕ) (left next : ℕ) (r : ReadCell) (e : CellRead s next r) where
-  pub cell-proper : (c : Cell) (n : ℕ) → r ≡ Got c n → ProperCell c
+  pub cell-proper : (c : Cell) (n : ℕ) → r ≡ Ok (c, n) → ProperCell c
   cell-proper c n h = subst ProperRead h e.proper
 
 -- n readings in a row that did not break gave them, n of them
@@ -216,3 +224,27 @@ module _ (s : List ℕ) (q : ℕ) (vs : List Value) (e : ℕ) (h : values_at s q
   -- the count byte stands there
   pub values-inside : q < length s
   values-inside = counted.2
+
+-- ---- the values of an iterator
+
+-- those that were read, and those that are left
+pub values-read : (v w : Values) (xs : List Cell) → Yields FirstValue v xs w → values_of v ≡ map held xs ++ values_of w
+values-read v w [] h = ap values_of h
+values-read v w (x ∷ xs) h = h.1.0 ∙ ap (λ (vs : List Value). held x ∷ vs) (values-read h.0 w xs h.2)
+
+-- value number i, after as many were passed over
+pub nth-read : (v w u : Values) (xs : List Cell) (r : Held Cell) (i : ℕ) → Yields FirstValue v xs w → FirstValue w r u
+    → MatchOption r (length xs ≤ i) (λ c. length xs ≡ i) → (given_of r ≡ nth (values_of v) i) × IfSome r ProperCell
+nth-read v w u xs None i h e n = (rw (values-read v w xs h, e.0) (past xs i n), tt)
+  where
+    past : (ys : List Cell) (k : ℕ) → length ys ≤ k → none ≡ nth (map held ys ++ []) k
+    past [] k l = refl
+    past (y ∷ ys) zero l = absurd (omega arith)
+    past (y ∷ ys) (suc k) l = past ys k (omega arith)
+nth-read v w u xs (Some c) i h e n = (rw (values-read v w xs h, e.0) (here xs i n), e.1)
+  where
+    here : (ys : List Cell) (k : ℕ) → length ys ≡ k → some (held c) ≡ nth (map held ys ++ (held c ∷ values_of u)) k
+    here [] zero l = refl
+    here [] (suc k) l = absurd (omega arith)
+    here (y ∷ ys) zero l = absurd (omega arith)
+    here (y ∷ ys) (suc k) l = here ys k (omega arith)

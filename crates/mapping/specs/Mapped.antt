@@ -1,30 +1,31 @@
 -- The operands of an insert and an update as the code has them. Assumes nothing.
-use Rattle.std.specs.Prelude.{ℕ, ◌+◌, ◌≤◌, cond, List, [], eqb, length, take, drop}
-use Rattle.std.proofs.Math.Option.{Option, none, some}
+use Rattle.std.specs.Prelude.{ℕ, ◌+◌, ◌≤◌, List, [], length, take, drop, IfSome}
+use Rattle.std.proofs.Math.Option.{Option, map}
+use Rattle.std.specs.declared.option.Option.{Option as Held}
 use Rattle.values.specs.Value.{Value}
-use Rattle.values.specs.Meaning.{held}
+use Rattle.values.specs.Meaning.{held, option_of}
+use Rattle.values.specs.declared.value.Cell.{Cell}
 use Rattle.rules.specs.Request.{Pair}
-use Rattle.laid.specs.declared.row.Row.{Row}
+use Rattle.arrayvec.specs.ArrayVec.{ArrayVec}
 use Rattle.laid.specs.Row.{cells_of}
 use Rattle.mapping.specs.declared.executor.Map.{Map}
-use Rattle.mapping.specs.declared.executor.Given.{Given}
 use Rattle.records.specs.Reading.{times}
 use Rattle.mapping.specs.Got.{got_or}
 use Rattle.records.specs.Record.{values_at, pair_at}
 
 -- the map's column numbers stand in the record
-unfoldable pub map_of : List ℕ → Map → Option (List ℕ)
-map_of rec m = cond m.given (some (take m.count (drop m.at rec))) none
+unfoldable pub map_of : List ℕ → Held Map → Option (List ℕ)
+map_of rec m = map (λ (x : Map). take x.count (drop x.at rec)) (option_of m)
 
-pub record MapIn (rec : List ℕ) (m : Map) : Type 0 where
-  pub inside : m.at + m.count ≤ length rec
+abbrev pub MapIn : List ℕ → Held Map → Type 0
+MapIn rec m = IfSome m (λ (x : Map). x.at + x.count ≤ length rec)
 
-abbrev pub given_of : Given → Option Value
-given_of g = cond g.found (some (held g.cell)) none
+abbrev pub given_of : Held Cell → Option Value
+given_of g = map held (option_of g)
 
--- a row of n columns, where all of them are filled
-abbrev pub filled_of : ℕ → Row → Option (List Value)
-filled_of n r = cond (eqb r.count n) (some (cells_of r)) none
+-- a row, where all of its columns are filled
+abbrev pub filled_of : Held (ArrayVec Cell) → Option (List Value)
+filled_of r = map (λ (x : ArrayVec Cell). cells_of x.items) (option_of r)
 
 -- the rows and the pairs from a position on
 unfoldable pub rows_at : List ℕ → ℕ → ℕ → List (List Value)

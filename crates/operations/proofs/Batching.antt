@@ -9,8 +9,8 @@ use lib.ListN.{length, get_or, set, replicate}
 use borrow.Author.Tests.{not-true}
 use Rattle.values.specs.Basic.{maybe}
 use Rattle.rules.specs.declared.profile.Profile.{Profile}
-use Rattle.rules.specs.declared.answer.Answer.{Answer}
-use Rattle.rules.specs.declared.answer.Refusal.TheVariants.{BatchOutOfTurn}
+use Rattle.rules.specs.Request.{Answer}
+use Rattle.rules.specs.Refusal.{BatchOutOfTurn}
 use Rattle.rules.specs.Journal.{unwound, is_open, batch_of, Books}
 use Rattle.rules.specs.Pages.{journal_image, parse_journal, books_of}
 use Rattle.forms.specs.Read.{got}
@@ -93,8 +93,8 @@ module _ {j : List ℕ} {a : Answer} where
 -- ---- 14
 
 module _ {p : Profile} {R : ℕ} {s j : List ℕ} (b : Booked p R s j) where
-  pub back-refused : not (eqb (get_or j 0 0) 0) ≡ false → (a : Answer) → said a ≡ no BatchOutOfTurn 0 → Settled p R (take_back (books_of p R s j)) s j s j a
-  back-refused h a g = left_alone b (take_back (books_of p R s j)) (no BatchOutOfTurn 0) (back_early (books_of p R s j) (sym (opens_as p R s j) ∙ h)) a g
+  pub back-refused : not (eqb (get_or j 0 0) 0) ≡ false → {a : Answer} → said a ≡ no BatchOutOfTurn 0 → Settled p R (take_back (books_of p R s j)) s j s j a
+  back-refused h {a} g = left_alone b (take_back (books_of p R s j)) (no BatchOutOfTurn 0) (back_early (books_of p R s j) (sym (opens_as p R s j) ∙ h)) a g
 
   module _ (h : not (eqb (get_or j 0 0) 0) ≡ true) where
     pub batch-there : Batch p R s j

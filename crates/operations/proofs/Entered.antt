@@ -1,9 +1,13 @@
 -- A request that a record's bytes say: it is as it is on entry, since values are normalised as they are read; it is what its operands say; and what
 -- a walked record comes to in a store. Assumes nothing.
+use Rattle.records.specs.Walked.{Walked}
+use Rattle.std.specs.declared.result.Result.TheVariants.{Ok, Err}
+use Rattle.forms.specs.declared.read.Broken.{Broken}
+use Rattle.std.specs.Result.{is_err}
 use Prim.Native.Nat.{ℕ, zero, suc, ◌<◌}
 use native.Mathlib.Omega.{arith}
 use mathlib.Core.Path.{◌≡◌, refl, sym, ap, ◌∙◌}
-use mathlib.Core.Bool.{true, cond}
+use mathlib.Core.Bool.{true, false, true≢false, cond}
 use mathlib.Core.List.{List, [], ◌∷◌, map}
 use mathlib.Core.Option
 use mathlib.Core.Option.{Option, none, some}
@@ -15,8 +19,8 @@ use Rattle.values.specs.Value.{Value, normalised}
 use Rattle.forms.specs.Read.{Read, got, broken, name_at, value_at}
 use Rattle.forms.proofs.Reading.{value_read}
 use Rattle.rules.specs.declared.profile.Profile.{Profile}
-use Rattle.rules.specs.declared.answer.Answer.{Answer}
-use Rattle.rules.specs.declared.answer.Refusal.TheVariants.{RecordBroken}
+use Rattle.rules.specs.Request.{Answer}
+use Rattle.rules.specs.Refusal.{RecordBroken}
 use Rattle.rules.specs.State.{Name}
 use Rattle.rules.specs.Journal.{Books}
 use Rattle.rules.specs.Layout.{bit}
@@ -31,8 +35,6 @@ use Rattle.records.specs.Reading.{and_then, times, flagged, byte_at, byte_from}
 use Rattle.records.specs.Record.{values_at, column_at, create_at, drop_at, map_at, insert_at, pair_at, update_at, keys_at, lookup_at, scan_at, operands_at, request_of}
 use Rattle.operations.specs.Told.{Acted, Replied, reads, outcome_of}
 use Rattle.records.specs.Walked.{walked_as}
-use Rattle.records.specs.declared.record.Walked.{Walked}
-use Rattle.records.specs.declared.record.Walked.TheVariants.{Ends, Breaks}
 use Rattle.mapping.proofs.ValuesFrom.{was-got, got-is, got-gives, unbroken, parted, then_is, then-first, then_next, byte-got, from-got}
 use Rattle.mapping.proofs.Read.{Gives, gives, given, gives-either, gives-got, gives-broken, gives_then, gives-flagged, Any, any}
 
@@ -213,15 +215,19 @@ module _ (p : Profile) (R : ℕ) (b : Books) where
 
 -- ---- a record that was walked to its end, or to where it breaks
 
-pub walked-got : (w : Read Request) (r : Walked) (n : ℕ) → r ≡ walked_as w → r ≡ Ends n → is_got w ≡ true
+pub walked-got : (w : Read Request) (r : Walked) (n : ℕ) → r ≡ walked_as w → r ≡ Ok n → is_got w ≡ true
 unfolding walked_as is_got
 walked-got (got q m) r n e h = refl
 walked-got (broken x) r n e h = absurd (let z : ◌≡◌ {A = ℕ} 0 1 = cc in omega arith)
 
-pub walked-broken : (w : Read Request) (r : Walked) (x : ℕ) → r ≡ walked_as w → r ≡ Breaks x → w ≡ broken x
+pub walked-broken : (w : Read Request) (r : Walked) (x : Broken) → r ≡ walked_as w → r ≡ Err x → w ≡ broken x.at
 unfolding walked_as
 walked-broken (got q m) r x e h = absurd (let z : ◌≡◌ {A = ℕ} 0 1 = cc in omega arith)
 walked-broken (broken y) r x e h = cc
+
+pub ended : (r : Walked) → false ≡ is_err r → (n : ℕ) × (r ≡ Ok n)
+ended (Ok n) h = (n, refl)
+ended (Err x) h = absurd (true≢false (sym h))
 
 -- the request, which its operands say
 record Says (rec : List ℕ) (p : Profile) : Type 0 where
@@ -257,7 +263,7 @@ module _ (rec : List ℕ) (p : Profile) where
         record { what = w.what; end = w.end; all = w.is; operands = z.is ∙ u.1 }
 
 module _ (p : Profile) (rec : List ℕ) (r : Walked) (e : r ≡ walked_as (request_of rec p)) where
-  module _ (n : ℕ) (h : r ≡ Ends n) (k : ℕ) (ek : k ≡ get_or rec 1 0) where
+  module _ (n : ℕ) (h : r ≡ Ok n) (k : ℕ) (ek : k ≡ get_or rec 1 0) where
     its : Says rec p
     its = says rec p (walked-got (request_of rec p) r n e h)
 
@@ -295,9 +301,13 @@ module _ (p : Profile) (rec : List ℕ) (r : Walked) (e : r ≡ walked_as (reque
           a (h books.journal ∙ sym (ap (λ (x : Outcome). x.reply) o))
 
   -- a broken record
-  pub broken-kept : (x : ℕ) → r ≡ Breaks x → (R : ℕ) (s j : List ℕ) → Booked p R s j → (a : Answer) → said a ≡ no RecordBroken 0
+  pub broken-kept : true ≡ is_err r → (R : ℕ) (s j : List ℕ) → Booked p R s j → (a : Answer) → said a ≡ no RecordBroken 0
       → Settled p R (outcome_of p R (books_of p R s j) (request_of rec p)) s j s j a
   unfolding outcome_of
-  broken-kept x h R s j b a g =
-      let o : outcome_of p R (books_of p R s j) (request_of rec p) ≡ refused (no RecordBroken 0) = ap (outcome_of p R (books_of p R s j)) (walked-broken (request_of rec p) r x e h) in
+  broken-kept h R s j b a g =
+      let o : outcome_of p R (books_of p R s j) (request_of rec p) ≡ refused (no RecordBroken 0) = ap (outcome_of p R (books_of p R s j)) (breaks r e h).1 in
       settled-still b (outcome_of p R (books_of p R s j) (request_of rec p)) (ap (λ (x : Outcome). x.changes) o) a (g ∙ sym (ap (λ (x : Outcome). x.reply) o))
+    where
+      breaks : (r : Walked) → r ≡ walked_as (request_of rec p) → true ≡ is_err r → (x : Broken) × (request_of rec p ≡ broken x.at)
+      breaks (Ok n) e h = absurd (true≢false h)
+      breaks (Err x) e h = (x, walked-broken (request_of rec p) (Err x) x e refl)

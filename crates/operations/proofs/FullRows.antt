@@ -7,8 +7,7 @@ use mathlib.Core.List.{List, [], ◌∷◌, map}
 use mathlib.Core.Logic.{inl, inr}
 use mathlib.Core.Option.{Option, none, some, some-injective, none-ne-some}
 use lib.Dec.{eqb}
-use lib.ListN.{length, take}
-use borrow.Author.Tests.{eqb-true}
+use lib.ListN.{length, length-map}
 use Rattle.values.specs.Basic.{is_none, or_default, ◌or_else◌}
 use Rattle.values.specs.Meaning.{held}
 use Rattle.forms.specs.Read.{got, value_at}
@@ -24,8 +23,6 @@ use Rattle.rules.proofs.Lists.{all-at, nth_in}
 use Rattle.rules.proofs.Tests.{all_head, all_tail, every-at, first-none}
 use Rattle.rules.proofs.Trip.{canonical-normal}
 use Rattle.laid.specs.Row.{cells_of, NormalCell}
-use Rattle.laid.specs.declared.row.Row.{Row}
-use Rattle.mapping.specs.Mapped.{filled_of}
 use Rattle.records.specs.Reading.{times, byte_at}
 use Rattle.records.specs.Record.{values_at}
 use Rattle.mapping.proofs.ValuesFrom.{headed, parted}
@@ -62,6 +59,17 @@ module _ (P : Value → Type 0) where
       go none (some v) p q b k r = cons v (d c (inl refl) v q) b k r
       go none none p q b k r = absurd (none-ne-some l k)
 
+-- as many values as columns
+fill-long : (g : ℕ → Option Value) (cs : List Column) (i : ℕ) (l : List Value) → fill g i cs ≡ some l → length l ≡ length cs
+unfolding fill
+fill-long g [] i l e = ap length (sym (some-injective [] l e))
+fill-long g (c ∷ cs) i l e = go (g i or_else c.default) (fill g (suc i) cs) e (fill-long g cs (suc i))
+  where
+    go : (a : Option Value) (b : Option (List Value)) → cons_to a b ≡ some l → ((m : List Value) → b ≡ some m → length m ≡ length cs) → length l ≡ suc (length cs)
+    go none b k r = absurd (none-ne-some l k)
+    go (some v) none k r = absurd (none-ne-some l k)
+    go (some v) (some vs) k r = ap length (sym (some-injective (v ∷ vs) l k)) ∙ ap suc (r vs refl)
+
 -- ---- values as reading gives them
 
 abbrev pub Normal : Value → Type 0
@@ -96,30 +104,25 @@ cells-normal (c ∷ cs) h = (h.0, cells-normal cs h.1)
 
 -- ---- a row as the code fills it, where it is not refused
 
-module _ (t : Table) (m : Option (List ℕ)) (vs : List Value) (r : Row) (e : filled_of (length t.columns) r ≡ fill (given m vs) 0 t.columns) (f : fill_fault t m vs ≡ none) where
-  there : is_none (fill (given m vs) 0 t.columns) ≡ false
+module _ (t : Table) (m : Option (List ℕ)) (vs : List Value) (f : fill_fault t m vs ≡ none) where
+  -- every column has its value
+  pub never-unfilled : none ≡ fill (given m vs) 0 t.columns → ⊥
   unfolding fill_fault
-  there = (first-none _ _ _ (first-none _ _ _ (first-none _ _ _ f).1).1).0
+  never-unfilled e = true≢false (ap is_none e ∙ (first-none _ _ _ (first-none _ _ _ (first-none _ _ _ f).1).1).0)
 
-  counts : eqb r.count (length t.columns) ≡ true
-  counts = go (eqb r.count (length t.columns)) refl
-    where
-      go : (b : Bool) → eqb r.count (length t.columns) ≡ b → eqb r.count (length t.columns) ≡ true
-      go true x = x
-      go false x = absurd (true≢false (sym (ap (λ (b : Bool). is_none (cond b (some (cells_of r)) none)) x) ∙ ap is_none e ∙ there))
+  module _ (r : List Cell) (e : some (cells_of r) ≡ fill (given m vs) 0 t.columns) where
+    pub full-count : length r ≡ length t.columns
+    unfolding cells_of
+    full-count =
+        sym (length-map r held)
+        ∙ fill-long (given m vs) t.columns 0 (cells_of r) (sym e)
 
-  fill-some : fill (given m vs) 0 t.columns ≡ some (cells_of r)
-  fill-some = sym e ∙ ap (λ (b : Bool). cond b (some (cells_of r)) none) counts
+    pub full-cells : cells_of r ≡ full_row t m vs
+    unfolding full_row
+    full-cells = ap (λ (o : Option (List Value)). or_default o []) e
 
-  pub full-count : r.count ≡ length t.columns
-  full-count = eqb-true _ _ counts
-
-  pub full-cells : cells_of r ≡ full_row t m vs
-  unfolding full_row
-  full-cells = sym (ap (λ (o : Option (List Value)). or_default o []) fill-some)
-
-  pub full-normal : (p : Profile) → good_table p t ≡ true → All Normal vs → All NormalCell (take r.count r.cells)
-  unfolding cells_of
-  full-normal p g h =
-      cells-normal (take r.count r.cells)
-      (fill-all Normal (given m vs) (λ i v k. given-all Normal m vs i v h k) t.columns (default-normal p t g) 0 (cells_of r) fill-some)
+    pub full-normal : (p : Profile) → good_table p t ≡ true → All Normal vs → All NormalCell r
+    unfolding cells_of
+    full-normal p g h =
+        cells-normal r
+        (fill-all Normal (given m vs) (λ i v k. given-all Normal m vs i v h k) t.columns (default-normal p t g) 0 (cells_of r) (sym e))

@@ -6,15 +6,81 @@ use mathlib.Core.Bool.{true, false}
 use mathlib.Core.List.{List, [], ◌∷◌}
 use lib.Dec.{eqb}
 use Rattle.rules.specs.declared.profile.Profile.{Profile}
-use Rattle.rules.specs.declared.answer.Answer.{Answer}
-use Rattle.rules.specs.Refusal.{number_of}
+use Rattle.rules.specs.Request.{Answer}
+use Rattle.rules.specs.Refusal.{Refusal, number_of, refusal_of}
+use Rattle.std.specs.Result.{IsErrAnd}
+use Rattle.rules.specs.declared.answer.Refusal as D
+use Rattle.rules.specs.declared.answer.Refusal.TheVariants as V
+use Rattle.rules.specs.declared.answer.Refused.{Refused}
+use Rattle.rules.specs.declared.answer.Carried.{Carried}
+use Rattle.std.specs.declared.option.Option.{Option as Held}
+use Rattle.std.specs.declared.option.Option.TheVariants.{None, Some}
+use Rattle.std.specs.declared.result.Result.TheVariants.{Ok, Err}
 use Rattle.rules.specs.Journal.{Books}
 use Rattle.rules.specs.Pages.{books_of}
-use Rattle.rules.specs.Request.{Reply, said, ok}
+use Rattle.rules.specs.Request.{Reply, said, told, no_with, ok, no}
 use Rattle.rules.specs.Step.{apply_all, note_all, changed, Outcome, is_accepted, at_place, numbered, in_turn}
 use Rattle.rules.proofs.Removed.{changed-append}
 use Rattle.rules.proofs.Turns.{in-turn-nil, in-turn-yes, in-turn-no, numbered-accepted, numbered-no}
 use Rattle.journal.specs.Books.{BytesOf, Settled}
+
+-- ---- a refusal of the code accepts nothing
+
+refusal-not : (k : D.Refusal) → eqb (number_of (refusal_of k)) 0 ≡ false
+refusal-not V.RecordBroken = refl
+refusal-not V.UnknownTable = refl
+refusal-not V.TableExists = refl
+refusal-not V.EmptyTableName = refl
+refusal-not V.NoColumns = refl
+refusal-not V.KeyColumnOutOfRange = refl
+refusal-not V.EmptyColumnName = refl
+refusal-not V.KeyNullable = refl
+refusal-not V.KeyNotUnique = refl
+refusal-not V.KeyIndexed = refl
+refusal-not V.NullableWithoutDefault = refl
+refusal-not V.NullDefault = refl
+refusal-not V.DefaultKind = refl
+refusal-not V.UniqueNotIndexed = refl
+refusal-not V.ReferenceNotIndexed = refl
+refusal-not V.UnknownTarget = refl
+refusal-not V.TargetKind = refl
+refusal-not V.ColumnTwice = refl
+refusal-not V.TablesFull = refl
+refusal-not V.TableReferenced = refl
+refusal-not V.TooManyValues = refl
+refusal-not V.MapCount = refl
+refusal-not V.NoDefault = refl
+refusal-not V.MapColumn = refl
+refusal-not V.RowSize = refl
+refusal-not V.KeyUndefined = refl
+refusal-not V.KeyExists = refl
+refusal-not V.WrongKind = refl
+refusal-not V.NullNotAllowed = refl
+refusal-not V.TargetMissing = refl
+refusal-not V.ValueExists = refl
+refusal-not V.RowReferenced = refl
+refusal-not V.RowsFull = refl
+refusal-not V.RowAbsent = refl
+refusal-not V.KeysNotRising = refl
+refusal-not V.NotIndexed = refl
+refusal-not V.StoreUnsound = refl
+refusal-not V.JournalFull = refl
+refusal-not V.InsideBatch = refl
+refusal-not V.BatchOutOfTurn = refl
+
+never-accepted : (y : Refused) → is_accepted (told y) ≡ false
+never-accepted y = go y.carried
+  where
+    go : (o : Held Carried) → is_accepted (no_with (refusal_of y.kind) y.at o) ≡ false
+    go None = refusal-not y.kind
+    go (Some x) = refusal-not y.kind
+
+-- what the exit of a `?` says that a fault was turned into
+pub refused-by : (r : Answer) (k : Refusal) (i : ℕ) → IsErrAnd r (λ y. told y ≡ no k i) → said r ≡ no k i
+refused-by (Ok n) k i h = absurd h
+refused-by (Err y) k i h = h
+
+-- ---- what remains
 
 module _ {A : Type 0} (f : Books → A → Outcome) (st : Books) (xs : List A) where
   -- i items are done, store and journal are `now`, and those of `left` are to come
@@ -78,19 +144,21 @@ module _ {A : Type 0} (p : Profile) (R : ℕ) (f : Books → A → Outcome) (s�
     abbrev bk : Books
     bk = books_of p R s j
 
-    accepted-as : is_accepted (f (books_of p R s j) x).reply ≡ eqb (number_of a.kind) 0
+    accepted-as : is_accepted (f (books_of p R s j) x).reply ≡ is_accepted (said a)
     accepted-as = sym (ap (λ (y : Reply). is_accepted y) h.answer ∙ numbered-accepted i (f bk x))
 
-    pub stored-stops : eqb (number_of a.kind) 0 ≡ false → Settled p R (in_turn f (books_of p R s₀ j₀) 0 xs) s₀ j₀ s₁ j₁ a
-    stored-stops n =
-        record {
+    pub stored-stops : (y : Refused) → a ≡ Err y → Settled p R (in_turn f (books_of p R s₀ j₀) 0 xs) s₀ j₀ s₁ j₁ (Err y)
+    stored-stops y e =
+        let no : is_accepted (f (books_of p R s j) x).reply ≡ false = accepted-as ∙ rw e (never-accepted y) in
+        rw (← e)
+        (record {
           answer =
               h.answer
-              ∙ ap (λ (o : Outcome). o.reply) (numbered-no i (f bk x) (accepted-as ∙ n))
-              ∙ sym (stop-reply f bk₀ xs bk i x left r (accepted-as ∙ n));
-          bytes = subst (λ (y : Books). BytesOf p R y s₁ j₁) (sym (stop-books f bk₀ xs bk i x left r (accepted-as ∙ n))) h.bytes;
-        }
+              ∙ ap (λ (o : Outcome). o.reply) (numbered-no i (f bk x) no)
+              ∙ sym (stop-reply f bk₀ xs bk i x left r no);
+          bytes = subst (λ (y : Books). BytesOf p R y s₁ j₁) (sym (stop-books f bk₀ xs bk i x left r no)) h.bytes;
+        })
 
-    pub stored_next : eqb (number_of a.kind) 0 ≡ true → books_of p R s₁ j₁ ≡ changed (f (books_of p R s j) x).changes (books_of p R s j)
+    pub stored_next : (n : ℕ) → a ≡ Ok n → books_of p R s₁ j₁ ≡ changed (f (books_of p R s j) x).changes (books_of p R s j)
         → Remains f (books_of p R s₀ j₀) xs (books_of p R s₁ j₁) (i + 1) left
-    stored_next n e = subst (λ (z : Books). Remains f bk₀ xs z (i + 1) left) (sym e) (remains-next f bk₀ xs bk i x left r (accepted-as ∙ n))
+    stored_next n g e = subst (λ (z : Books). Remains f bk₀ xs z (i + 1) left) (sym e) (remains-next f bk₀ xs bk i x left r (accepted-as ∙ rw g refl))

@@ -15,7 +15,7 @@ use Rattle.laid.proofs.Finding.{place_found}
 use Rattle.laid.proofs.RowFacts.{table-there, start-count}
 use Rattle.laid.proofs.Stores.{laid-store}
 
-module _ (p : Profile) (R : ℕ) (s : List ℕ) (b : Store p R s) (n : Name) (t : ℕ) (f : some t ≡ place_of (is_named n) (parse p R s).tables) where
+module _ {p : Profile} {R : ℕ} {s : List ℕ} (b : Store p R s) (n : Name) {t : ℕ} (f : some t ≡ place_of (is_named n) (parse p R s).tables) where
   pub named-below : t < length (parse p R s).tables
   named-below = (place_found (is_named n) (parse p R s).tables t (sym f)).0
 
@@ -26,7 +26,7 @@ module _ (p : Profile) (R : ℕ) (s : List ℕ) (b : Store p R s) (n : Name) (t 
   named-place = schema-within p R s t (laid-store p R s b) named-below
 
   -- its record
-  module _ (tab : List ℕ) (et : tab ≡ get_or (lists p R s).schemas t []) where
+  module _ {tab : List ℕ} (et : tab ≡ get_or (lists p R s).schemas t []) where
     pub named-bytes : TableBytes p tab
     named-bytes = rec-bytes p R s t (laid-store p R s b) named-below tab et
 

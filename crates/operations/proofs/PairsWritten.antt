@@ -1,31 +1,32 @@
 -- The pairs of an update, carried out one after the other: store and journal are sound after each, and what remains of them comes to what all come to.
 -- Assumes nothing.
-use Prim.Native.Nat.{ℕ, ◌+◌, ◌-◌, ◌≤◌, ◌<◌}
+use Rattle.std.specs.declared.result.Result.TheVariants.{Ok, Err}
+use Rattle.forms.specs.declared.read.Broken.{Broken}
+use Prim.Native.Nat.{ℕ, suc, ◌+◌, ◌-◌, ◌≤◌, ◌<◌}
 use mathlib.Core.Path.{◌≡◌, refl, sym, ap, ◌∙◌, subst}
-use mathlib.Core.Bool.{Bool, true, false, true≢false}
-use mathlib.Core.List.{List, [], ◌∷◌}
-use mathlib.Core.Option.{none, some-ne-none}
-use native.Mathlib.Omega.{arith}
+use mathlib.Core.Bool.{Bool, true, false, cond}
 use lib.Dec.{eqb}
-use lib.ListN.{length, get_or, take}
-use borrow.Author.Tests.{eq-eqb, eqb-true}
+use mathlib.Core.List.{List, [], ◌∷◌}
+use mathlib.Core.Option.{Option, none, some, some-ne-none}
+use native.Mathlib.Numerals.{add-one}
+use native.Mathlib.Nat.{sub-zero}
+use native.Mathlib.Omega.{arith}
+use lib.ListN.{length}
+use borrow.Author.Tests.{eqb-true}
 use Rattle.values.specs.Basic.{nth, or_default}
-use Rattle.values.specs.Meaning.{held, Proper}
-use Rattle.forms.specs.Read.{got, CellRead}
+use Rattle.values.specs.Meaning.{held}
+use Rattle.forms.specs.Read.{got, broken, CellRead}
 use Rattle.areas.specs.Sorted.{All}
 use Rattle.values.specs.Value.{Value, same}
-use Rattle.forms.specs.declared.read.ReadCell.{ReadCell}
-use Rattle.forms.specs.declared.read.ReadCell.TheVariants.{Got, Broken}
 use Rattle.values.specs.declared.value.Cell.{Cell}
 use Rattle.rules.specs.declared.profile.Profile.{Profile}
-use Rattle.rules.specs.declared.answer.Answer.{Answer}
-use Rattle.rules.specs.declared.answer.Refusal.TheVariants.{RowSize}
-use Rattle.rules.specs.Refusal.{number_of}
+use Rattle.rules.specs.Request.{Answer}
+use Rattle.rules.specs.declared.answer.Refused.{Refused}
 use Rattle.rules.specs.State.{Table, State, key_of, row_of}
 use Rattle.rules.specs.Journal.{Books}
 use Rattle.rules.specs.Pages.{books_of}
 use Rattle.rules.specs.Layout.{parse, unknown}
-use Rattle.rules.specs.Request.{Pair, said, ok}
+use Rattle.rules.specs.Request.{Pair, ok}
 use Rattle.rules.specs.Rows.{size_fault}
 use Rattle.rules.specs.Step.{Change, added, apply, apply_all, changed, Outcome, numbered, in_turn, removals, same_key, reinsert, other_key, pair}
 use Rattle.rules.proofs.Asked.{Ready, Good}
@@ -34,28 +35,26 @@ use Rattle.rules.proofs.Backed.{Right, right-keeps}
 use Rattle.rules.proofs.Removed.{apply_all-append, removals-come}
 use Rattle.rules.proofs.Tests.{by-option, by_cond}
 use Rattle.rules.proofs.Trip.{table-good}
-use Rattle.checks.specs.Keys.{values_from}
+use Rattle.checks.specs.Keys.{on_read, values_from, values_of}
+use Rattle.checks.specs.declared.keys.Values.{Values}
 use Rattle.store.specs.Removed.{pair_of}
 use Rattle.laid.specs.Row.{cells_of, NormalCell, ProperRow, table_in, FullRow}
 use Rattle.journal.specs.Books.{Booked, Settled}
-use Rattle.journal.proofs.Booking.{laid-books, right_of, booked-bytes, next-are, next-booked}
-use Rattle.laid.specs.declared.row.Row.{Row}
+use Rattle.journal.proofs.Booking.{right_of, booked-bytes, next-are, next-booked}
 use Rattle.laid.proofs.RowFacts.{table-held}
-use Rattle.laid.proofs.Stores.{store-valid, store-inside, laid-store}
-use Rattle.store.proofs.Settling.{same-places}
+use Rattle.laid.proofs.Stores.{store-valid, laid-store}
 use Rattle.store.proofs.Written.{row-ready, own-named}
 use Rattle.mapping.specs.Got.{is_got}
 use Rattle.mapping.specs.Mapped.{pairs_at}
 use Rattle.records.specs.Reading.{times}
 use Rattle.records.specs.Record.{values_at, pair_at}
 use Rattle.records.specs.Walked.{walked_as}
-use Rattle.records.specs.declared.record.Walked.TheVariants.{Ends, Breaks}
-use Rattle.records.specs.declared.record.Walked.{Walked}
+use Rattle.operations.specs.Counted.{Counted}
 use Rattle.operations.proofs.FullRows.{Normal, values-normal, cells-normal}
 use Rattle.operations.proofs.InTurn.{Remains, remains-start, stored-end, stored-stops, stored_next}
-use Rattle.mapping.proofs.Pairs.{PairThere, pair-there, pairs-none, row-end, row-never, size-over, size-again, others-left, old-never, old-is, old-end}
-use Rattle.checks.proofs.KeysRead.{values-end, values-got}
-use Rattle.mapping.proofs.ValuesFrom.{cell-proper, values-there, values-inside}
+use Rattle.mapping.proofs.Pairs.{PairThere, pair-there, pairs-none}
+use Rattle.mapping.proofs.ValuesFrom.{values-there, values-inside}
+use Rattle.records.proofs.Walking.{ends}
 
 -- ---- store and journal after a pair's turn
 
@@ -84,7 +83,7 @@ pair-tables p R t b q =
     (λ k g. refl))
     (λ k f. refl))
 
-module _ (p : Profile) (R : ℕ) (s j : List ℕ) (b : Booked p R s j) (t : ℕ) (old : Value) (row : Row) (f : FullRow p R s t row) where
+module _ (p : Profile) (R : ℕ) (s j : List ℕ) (b : Booked p R s j) (t : ℕ) (old : Value) (row : List Cell) (f : FullRow p R s t row) where
   abbrev its : Pair
   its = record { old = old; row = cells_of row }
 
@@ -112,127 +111,125 @@ module _ (p : Profile) (R : ℕ) (s j : List ℕ) (b : Booked p R s j) (t : ℕ)
     pair-known : t < length (parse p R s₁).tables
     pair-known = subst (λ (ts : List Table). t < length ts) (sym tables-are) f.known
 
-    pair-long : length s₁ ≡ length s
-    pair-long = (store-inside p R s₁ pair-books.store).long ∙ sym (store-inside p R s b.store).long
+-- a test that refuses was met
+cond-none : {A : Type 0} (b : Bool) (f : Option A) (k : A) → cond b f (some k) ≡ none → (b ≡ true) × (f ≡ none)
+cond-none true f k h = (refl, h)
+cond-none false f k h = absurd (some-ne-none k h)
 
-    pair-places : length j₁ ≡ length j
-    pair-places = same-places (laid-books b) (laid-books pair-books) cs pair-are
+-- ---- the loop: i of n pairs are done, and the others are to come, from q on
 
--- ---- the loop: `left` pairs are to come, from q on, and i are done
+abbrev OfAll : Profile → ℕ → List ℕ → List ℕ → ℕ → List ℕ → ℕ → ℕ → List ℕ → List ℕ → Answer → Type 0
+OfAll p R s₀ j₀ t rec at n s₁ j₁ a = Settled p R (in_turn (pair p R (table_in p R s₀ t)) (books_of p R s₀ j₀) 0 (pairs_at rec n at)) s₀ j₀ s₁ j₁ a
 
-module _ (p : Profile) (R : ℕ) (s₀ j₀ : List ℕ) (t : ℕ) (rec : List ℕ) (at n : ℕ) where
-  abbrev T₀ : Table
-  T₀ = table_in p R s₀ t
+pub record Updating (p : Profile) (R : ℕ) (s₀ j₀ : List ℕ) (t : ℕ) (rec : List ℕ) (at n : ℕ) (s j : List ℕ) (q i : ℕ) : Type 0 where
+  pub books : Booked p R s j
+  pub known : t < length (parse p R s).tables
+  pub table : table_in p R s t ≡ table_in p R s₀ t
+  pub got : is_got (times (pair_at rec) (n - i) q) ≡ true
+  pub sizes : size_fault (table_in p R s₀ t) i (pairs_at rec (n - i) q) ≡ none
+  pub remains : Remains (pair p R (table_in p R s₀ t)) (books_of p R s₀ j₀) (pairs_at rec n at) (books_of p R s j) i (pairs_at rec (n - i) q)
 
-  abbrev whole : List Pair
-  whole = pairs_at rec n at
-
-  pub record Updating (s j : List ℕ) (left q i : ℕ) : Type 0 where
-    pub books : Booked p R s j
-    pub known : t < length (parse p R s).tables
-    pub table : table_in p R s t ≡ T₀
-    pub long : length s ≡ length s₀
-    pub places : length j ≡ length j₀
-    pub counted : i + left ≡ n
-    pub got : is_got (times (pair_at rec) left q) ≡ true
-    pub sizes : size_fault T₀ i (pairs_at rec left q) ≡ none
-    pub remains : Remains (pair p R T₀) (books_of p R s₀ j₀) whole (books_of p R s j) i (pairs_at rec left q)
-
-  pub updating-start : Booked p R s₀ j₀ → t < length (parse p R s₀).tables → is_got (times (pair_at rec) n at) ≡ true → size_fault T₀ 0 (pairs_at rec n at) ≡ none
-      → Updating s₀ j₀ n at 0
+module _ {p : Profile} {R : ℕ} {s₀ j₀ : List ℕ} {t : ℕ} {rec : List ℕ} {at n : ℕ} where
+  pub updating-start : Booked p R s₀ j₀ → t < length (parse p R s₀).tables → is_got (times (pair_at rec) n at) ≡ true → size_fault (table_in p R s₀ t) 0 (pairs_at rec n at) ≡ none
+      → Updating p R s₀ j₀ t rec at n s₀ j₀ at 0
   updating-start b h g f =
       record {
         books = b;
         known = h;
         table = refl;
-        long = refl;
-        places = refl;
-        counted = omega arith;
-        got = g;
-        sizes = f;
-        remains = remains-start (pair p R T₀) (books_of p R s₀ j₀) whole;
+        got = rw (sub-zero n) g;
+        sizes = rw (sub-zero n) f;
+        remains = rw (sub-zero n) (remains-start (pair p R (table_in p R s₀ t)) (books_of p R s₀ j₀) (pairs_at rec n at));
       }
 
-  -- the pair at q, as the code read its old key c, which ends at m
-  pub record Ahead (q : ℕ) (c : Cell) (m : ℕ) : Type 0 where
-    pub alone : values_from rec 1 q ≡ held c ∷ []
-    pub proper : Proper c.value
-    pub inside : m < length rec
-    pub whole_row : (w : Walked) (y : ℕ) → w ≡ walked_as (values_at rec m) → w ≡ Breaks y → ⊥
-    pub few : p.columns ≤ 8 → (k : ℕ) → k ≡ get_or rec m 0 → k ≤ 8
-    pub counts : (k : ℕ) → k ≡ get_or rec m 0 → length (values_from rec k (m + 1)) ≡ k
+  module _ {s j : List ℕ} {q i : ℕ} (x : Updating p R s₀ j₀ t rec at n s j q i) where
+    abbrev T₀ : Table
+    T₀ = table_in p R s₀ t
 
-  -- its turn, which left s₁ and j₁ and answered a
-  pub record Turned (left i m : ℕ) (s₁ j₁ : List ℕ) (a : Answer) : Type 0 where
-    pub long : length s₁ ≡ length s₀
-    pub places : length j₁ ≡ length j₀
-    pub stops : eqb (number_of a.kind) 0 ≡ false → Settled p R (in_turn (pair p R T₀) (books_of p R s₀ j₀) 0 whole) s₀ j₀ s₁ j₁ a
-    pub next : eqb (number_of a.kind) 0 ≡ true → (w : Walked) (y : ℕ) → w ≡ walked_as (values_at rec m) → w ≡ Ends y → Updating s₁ j₁ (left - 1) y (i + 1)
+    abbrev all : List Pair
+    all = pairs_at rec n at
 
-  module _ (s j : List ℕ) (left q i : ℕ) (x : Updating s j left q i) where
-    pub updating-end : left ≤ 0 → (a : Answer) → said a ≡ ok n → Settled p R (in_turn (pair p R T₀) (books_of p R s₀ j₀) 0 whole) s₀ j₀ s j a
-    updating-end l a h =
-        let e : n ≡ i = omega (arith, x.counted) in
-        stored-end p R (pair p R T₀) s₀ j₀ whole s j (booked-bytes x.books) i
-        (subst (λ (qs : List Pair). Remains (pair p R T₀) (books_of p R s₀ j₀) whole (books_of p R s j) i qs) (pairs-none rec left q l) x.remains)
-        a (h ∙ ap ok e)
+    pub updating-end : i ≡ n → OfAll p R s₀ j₀ t rec at n s j (Ok n)
+    updating-end e =
+        stored-end p R (pair p R T₀) s₀ j₀ all s j (booked-bytes x.books) i
+        (subst (λ (qs : List Pair). Remains (pair p R T₀) (books_of p R s₀ j₀) all (books_of p R s j) i qs) (pairs-none rec (n - i) q (omega arith)) x.remains)
+        (Ok n) (ap ok (sym e))
 
-    -- the old key as the code read it
-    module _ (l : 0 < left) (r : ReadCell) (er : CellRead rec q r) where
-      here : PairThere rec left q
-      here = pair-there rec left q l x.got
+    module _ (l : i < n) where
+      here : PairThere rec (n - i) q
+      here = pair-there rec (n - i) q (omega arith) x.got
 
-      pub old-whole : (y : ℕ) → r ≡ Broken y → ⊥
-      old-whole y e = old-never rec left q here r er y e
+      -- the old key can be read
+      pub old-reads : {y : Broken} → CellRead rec q (Err y) → ⊥
+      old-reads {y} e = let u : broken y.at ≡ got here.head.old here.mid = e.is ∙ here.key in let z : ◌≡◌ {A = ℕ} 0 1 = cc in omega arith
 
-      module _ (c : Cell) (m : ℕ) (e : r ≡ Got c m) where
-        mid : m ≡ here.mid
-        mid = old-end rec left q here r er c m e
+      -- it was read as c, which ends at k
+      module _ {c : Cell} {k : ℕ} (e : CellRead rec q (Ok (c, k))) where
+        old-read : got (held c) k ≡ got here.head.old here.mid
+        old-read = e.is ∙ here.key
 
-        at_row : values_at rec m ≡ got here.head.row here.next
-        at_row = ap (values_at rec) mid ∙ here.values
+        old-is : held c ≡ here.head.old
+        old-is = let u = old-read in cc
+
+        at_row : values_at rec k ≡ got here.head.row here.next
+        at_row = let u = old-read in let z : k ≡ here.mid = cc in ap (values_at rec) z ∙ here.values
+
+        pub row-inside : k < length rec
+        row-inside = values-inside rec k here.head.row here.next at_row
+
+        pub old-alone : (v : Values) → v.bytes.now ≡ rec → v.at ≡ q → v.count ≡ 1 → values_of v ≡ held c ∷ []
+        unfolding values_of values_from on_read
+        old-alone v eb ea ec = ap (λ (s : List ℕ). values_from s v.count v.at) eb ∙ rw (ea, ec, ← e.is) refl
+
+        ends_there : Ok here.next ≡ walked_as (values_at rec k)
+        ends_there = ends here.head.row here.next ∙ ap walked_as (sym at_row)
+
+        pub row-walks : {y : Broken} → Err y ≡ walked_as (values_at rec k) → ⊥
+        row-walks {y} f = let d : Ok here.next ≡ Err y = ends_there ∙ sym f in let z : ◌≡◌ {A = ℕ} 0 1 = cc in omega arith
 
         -- as many values as the table has columns
-        sized : get_or rec m 0 ≡ length T₀.columns
-        sized = go (eqb (get_or rec m 0) (length T₀.columns)) refl
-          where
-            go : (b : Bool) → eqb (get_or rec m 0) (length T₀.columns) ≡ b → get_or rec m 0 ≡ length T₀.columns
-            go true f = eqb-true _ _ f
-            go false f =
-                absurd (some-ne-none (RowSize, i) (size-over rec left q here m mid T₀ i none x.sizes (λ g. true≢false (sym (eq-eqb _ _ g) ∙ f))))
+        sizing : (length here.head.row ≡ length T₀.columns) × (size_fault T₀ (suc i) (pairs_at rec (n - i - 1) here.next) ≡ none)
+        unfolding size_fault
+        sizing =
+            let o = cond-none (eqb (length here.head.row) (length T₀.columns)) _ _ (sym (ap (size_fault T₀ i) here.all) ∙ x.sizes) in
+            (eqb-true _ _ o.0, o.1)
 
-        module _ (k : ℕ) (ek : k ≡ get_or rec m 0) where
-          its-values : values_from rec k (m + 1) ≡ here.head.row
-          its-values = ap (λ (z : ℕ). values_from rec z (m + 1)) ek ∙ (values-there rec m here.head.row here.next at_row).0
+        module _ {v : Values} (u : Counted rec k v) where
+          its-values : values_of v ≡ here.head.row
+          unfolding values_of
+          its-values = rw (u.bytes, u.from, u.count) (values-there rec k here.head.row here.next at_row).0
 
-          row-few : p.columns ≤ 8 → k ≤ 8
-          row-few h =
+          row-counts : length (values_of v) ≡ v.count
+          row-counts = ap length its-values ∙ (values-there rec k here.head.row here.next at_row).1 ∙ sym u.count
+
+          -- there is room for them
+          pub row-sized : p.columns ≤ 8 → (v.count ≤ 8) × (length (values_of v) ≡ v.count)
+          row-sized h =
               let g = (table-good p (table_in p R s t) ((store-valid p R s x.books.store).good-tables (table_in p R s t) (table-held p R s (laid-store p R s x.books.store) t x.known))).few in
-              let z : k ≡ length (table_in p R s t).columns = ek ∙ sized ∙ ap (λ (y : Table). length y.columns) (sym x.table) in
-              omega (arith, g, z, h)
+              (omega (arith, g, row-counts, ap length its-values, sizing.0, ap (λ (y : Table). length y.columns) x.table), row-counts)
 
-          module _ (row : Row) (ec : cells_of row ≡ values_from rec k (m + 1)) (pr : ProperRow row) (en : row.count ≡ k) where
-            its-normal : All NormalCell (take row.count row.cells)
+          module _ {row : List Cell} (er : cells_of row ≡ values_of v) (pr : ProperRow row) (en : length row ≡ v.count) where
+            its-normal : All NormalCell row
             unfolding cells_of
             its-normal =
-                cells-normal (take row.count row.cells)
-                (subst (All Normal) (sym (ec ∙ its-values)) (values-normal rec m here.head.row here.next at_row))
+                cells-normal row
+                (subst (All Normal) (sym (er ∙ its-values)) (values-normal rec k here.head.row here.next at_row))
 
             pub row-full : FullRow p R s t row
             row-full =
                 record {
                   known = x.known;
                   proper = pr;
-                  full = en ∙ ek ∙ sized ∙ ap (λ (z : Table). length z.columns) (sym x.table);
+                  full = en ∙ sym row-counts ∙ ap length its-values ∙ sizing.0 ∙ ap (λ (z : Table). length z.columns) (sym x.table);
                   normal = its-normal;
                 }
 
             -- its turn
-            module _ (s₁ j₁ : List ℕ) (a : Answer) (h : Settled p R (numbered i (pair p R (table_in p R s t) (books_of p R s j) (pair_of c.value row))) s j s₁ j₁ a) where
+            module _ {s₁ j₁ : List ℕ} {a : Answer} (h : Settled p R (numbered i (pair p R (table_in p R s t) (books_of p R s j) (pair_of c.value row))) s j s₁ j₁ a) where
               same-pair : pair_of c.value row ≡ here.head
               same-pair =
-                  ap {B = Pair} (λ (v : Value). record { old = v; row = cells_of row }) (old-is rec left q here r er c m e)
-                  ∙ ap {B = Pair} (λ (vs : List Value). record { old = here.head.old; row = vs }) (ec ∙ its-values)
+                  ap {B = Pair} (λ (v : Value). record { old = v; row = cells_of row }) old-is
+                  ∙ ap {B = Pair} (λ (vs : List Value). record { old = here.head.old; row = vs }) (er ∙ its-values)
 
               same_outcome : pair p R (table_in p R s t) (books_of p R s j) (pair_of c.value row) ≡ pair p R T₀ (books_of p R s j) here.head
               same_outcome =
@@ -241,47 +238,28 @@ module _ (p : Profile) (R : ℕ) (s₀ j₀ : List ℕ) (t : ℕ) (rec : List �
               its-turn : Settled p R (numbered i (pair p R T₀ (books_of p R s j) here.head)) s j s₁ j₁ a
               its-turn = subst (λ (o : Outcome). Settled p R (numbered i o) s j s₁ j₁ a) same_outcome h
 
-              to-come : Remains (pair p R T₀) (books_of p R s₀ j₀) whole (books_of p R s j) i (here.head ∷ pairs_at rec (left - 1) here.next)
-              to-come = subst (λ (qs : List Pair). Remains (pair p R T₀) (books_of p R s₀ j₀) whole (books_of p R s j) i qs) here.all x.remains
+              to-come : Remains (pair p R T₀) (books_of p R s₀ j₀) all (books_of p R s j) i (here.head ∷ pairs_at rec (n - i - 1) here.next)
+              to-come = subst (λ (qs : List Pair). Remains (pair p R T₀) (books_of p R s₀ j₀) all (books_of p R s j) i qs) here.all x.remains
 
-              turn-long : length s₁ ≡ length s₀
-              turn-long = pair-long p R s j x.books t (held c) row row-full i s₁ j₁ a h ∙ x.long
+              pub updating-stops : {y : Refused} → a ≡ Err y → OfAll p R s₀ j₀ t rec at n s₁ j₁ (Err y)
+              updating-stops {y} g =
+                  stored-stops p R (pair p R T₀) s₀ j₀ all s j i here.head (pairs_at rec (n - i - 1) here.next) to-come s₁ j₁ a its-turn y g
 
-              turn-places : length j₁ ≡ length j₀
-              turn-places = pair-places p R s j x.books t (held c) row row-full i s₁ j₁ a h ∙ x.places
-
-              updating-stops : eqb (number_of a.kind) 0 ≡ false → Settled p R (in_turn (pair p R T₀) (books_of p R s₀ j₀) 0 whole) s₀ j₀ s₁ j₁ a
-              updating-stops g =
-                  stored-stops p R (pair p R T₀) s₀ j₀ whole s j i here.head (pairs_at rec (left - 1) here.next) to-come s₁ j₁ a its-turn g
-
-              updating-next : eqb (number_of a.kind) 0 ≡ true → (w : Walked) (y : ℕ) → w ≡ walked_as (values_at rec m) → w ≡ Ends y → Updating s₁ j₁ (left - 1) y (i + 1)
-              updating-next g w y ew ey =
-                  let k : y ≡ here.next = row-end rec left q here m mid w y ew ey in
-                  record {
+              pub updating-next : {k' y : ℕ} → a ≡ Ok k' → Ok y ≡ walked_as (values_at rec k) → Updating p R s₀ j₀ t rec at n s₁ j₁ y (i + 1)
+              updating-next {k'} {y} g ey =
+                  let d : Ok here.next ≡ Ok y = ends_there ∙ sym ey in
+                  let less : n - i - 1 ≡ n - (i + 1) = omega arith in
+                  subst (λ (y : ℕ). Updating p R s₀ j₀ t rec at n s₁ j₁ y (i + 1)) (cc d)
+                  (record {
                     books = pair-books p R s j x.books t (held c) row row-full i s₁ j₁ a h;
                     known = pair-known p R s j x.books t (held c) row row-full i s₁ j₁ a h;
                     table = pair-table p R s j x.books t (held c) row row-full i s₁ j₁ a h ∙ x.table;
-                    long = turn-long;
-                    places = turn-places;
-                    counted = omega (arith, x.counted);
-                    got = others-left rec left q here y k;
-                    sizes = size-again rec left q here m mid T₀ i none x.sizes y k sized;
+                    got = rw less at here.left;
+                    sizes =
+                        ap (λ (w : ℕ). size_fault T₀ (i + 1) (pairs_at rec w here.next)) (sym less)
+                        ∙ ap (λ (y : ℕ). size_fault T₀ y (pairs_at rec (n - i - 1) here.next)) (add-one i) ∙ sizing.1;
                     remains =
-                        subst (λ (z : ℕ). Remains (pair p R T₀) (books_of p R s₀ j₀) whole (books_of p R s₁ j₁) (i + 1) (pairs_at rec (left - 1) z)) (sym k)
-                        (stored_next p R (pair p R T₀) s₀ j₀ whole s j i here.head (pairs_at rec (left - 1) here.next) to-come s₁ j₁ a its-turn g
+                        subst (λ (w : ℕ). Remains (pair p R T₀) (books_of p R s₀ j₀) all (books_of p R s₁ j₁) (i + 1) (pairs_at rec w here.next)) less
+                        (stored_next p R (pair p R T₀) s₀ j₀ all s j i here.head (pairs_at rec (n - i - 1) here.next) to-come s₁ j₁ a its-turn k' g
                         (pair-are p R s j x.books t (held c) row row-full i s₁ j₁ a h ∙ ap (λ (o : Outcome). changed o.changes (books_of p R s j)) same_outcome));
-                  }
-
-              pub updating-turn : Turned left i m s₁ j₁ a
-              updating-turn = record { long = turn-long; places = turn-places; stops = updating-stops; next = updating-next }
-
-        pub pair-ahead : Ahead q c m
-        pair-ahead =
-            record {
-              alone = values-got rec 1 q r er (omega arith) c m e ∙ ap (λ (vs : List Value). held c ∷ vs) (values-end rec (1 - 1) m (λ h. omega arith));
-              proper = cell-proper rec 1 q r er c m e;
-              inside = values-inside rec m here.head.row here.next at_row;
-              whole_row = λ w y ew ey. row-never rec left q here m mid w y ew ey;
-              few = λ h k ek. row-few k ek h;
-              counts = λ k ek. ap length (its-values k ek) ∙ (values-there rec m here.head.row here.next at_row).1 ∙ sym ek;
-            }
+                  })

@@ -1,4 +1,5 @@
 -- A schema that a record says: what a column and a create that are read give, and their bytes as they are written part by part over zeros. Assumes nothing.
+use Rattle.std.specs.declared.result.Result.TheVariants.{Ok}
 use mathlib.Core.Path.{◌≡◌, refl, sym, ap, ◌∙◌, subst}
 use Prim.Native.Nat.{ℕ, zero, suc, ◌+◌, ◌-◌, ◌*◌, ◌/◌, ◌%◌, ◌≤◌, ◌<◌}
 use native.Mathlib.Omega.{arith}
@@ -30,10 +31,10 @@ use Rattle.rules.specs.Request.{Request, Create, Names, entered_column, entered_
 use Rattle.rules.specs.Readable.{readable}
 use Rattle.rules.specs.Step.{create, act, outside}
 use Rattle.rules.specs.Pages.{books_of}
-use Rattle.rules.specs.declared.answer.Refusal.TheVariants.{InsideBatch}
+use Rattle.rules.specs.Refusal.{InsideBatch}
 use Rattle.journal.specs.Books.{Booked, Settled}
 use Rattle.operations.proofs.Shut.{inside-refused}
-use Rattle.rules.specs.declared.answer.Answer.{Answer}
+use Rattle.rules.specs.Request.{Answer}
 use Rattle.rules.specs.Sound.{good_column, good_table}
 use Rattle.rules.proofs.Trip.{column-good, column-long, table-good, table-back}
 use Rattle.rules.proofs.Widths.{column-within}
@@ -44,7 +45,6 @@ use Rattle.laid.specs.Catalog.{TableBytes}
 use Rattle.laid.proofs.Stores.{table-bytes}
 use Rattle.changes.proofs.Writing.{name-long, cell-wide}
 use Rattle.changes.proofs.RowAdded.{drop-zeros}
-use Rattle.records.specs.declared.record.Walked.TheVariants.{Ends}
 use Rattle.mapping.specs.Got.{is_got, got_or}
 use Rattle.records.proofs.Walking.{offset}
 use Rattle.mapping.proofs.ValuesFrom.{was-got, never-broken, then_is, then-first, then_next, flagged-is, flagged-none, flagged-first, none_left, next-first, next-rest, next-whole, byte-got, from-got}
@@ -237,16 +237,13 @@ module _ {p : Profile} {d : List ℕ} {name : Text} {y : List ℕ} {kind f : ℕ
     default-long = ap length b.is ∙ simp (length-append, length-drop) (omega (arith, y-long, d-long, b.wide))
 
     -- all is written
-    pub record Columned (all : List ℕ) (end : ℕ) : Type 0 where
-      pub is : all ≡ column_record p (column_of (column_at s at))
-      pub ends : Ends end ≡ walked_as (column_at s at)
-      pub kept : length all ≡ length d
+    abbrev pub Columned : List ℕ → ℕ → Type 0
+    Columned all end = (all ≡ column_record p (column_of (column_at s at))) × (Ok end ≡ walked_as (column_at s at))
 
     columned : (all : List ℕ) (end : ℕ) (r : Option (List ℕ)) → is_some r ≡ bit 16 f → flagged (bit 16 (get_or s (a + 1) 0)) (name_at s) mid ≡ got r end
-        → length (name_cell (or_default r [])) ≡ 25
         → all ≡ ((leading y kind f ++ value_cell cell_width (or_default b.value null)) ++ name_cell (or_default r [])) ++ drop 78 d → Columned all end
     unfolding column_record walked_as got_or
-    columned all end r er e l x =
+    columned all end r er e x =
         let w : column_at s at ≡ got (column_with (text_bytes name) (get_or s a 0) (get_or s (a + 1) 0) b.value r) end = z.column.whole b.value mid r end b.read e in
         let none : drop 78 d ≡ [] = drop_of_length-le d {i = 78} (omega (arith, d-long)) in
         let fl : flags (column_with (text_bytes name) kind f b.value r) ≡ f = flags-are (text_bytes name) kind f b.value r (omega (arith, z.flags-is, z.column.few)) b.flag er in
@@ -259,19 +256,14 @@ module _ {p : Profile} {d : List ℕ} {name : Text} {y : List ℕ} {kind f : ℕ
         ∙ append_assoc y (kind ∷ f ∷ []) (v ++ n)
         ∙ rw (z.cell, fl, z.coded.cells)
         in
-        record {
-          is = whole ∙ rw (z.kind-is, z.flags-is) (sym (ap (λ (q : Read Column). column_record p (got_or no_column q)) w));
-          ends = sym (ap walked_as w);
-          kept = ap length x ∙ simp (length-append, length-drop) (omega (arith, y-long, d-long, b.wide, l));
-        }
+        (whole ∙ rw (z.kind-is, z.flags-is) (sym (ap (λ (q : Read Column). column_record p (got_or no_column q)) w)), sym (ap walked_as w))
 
-    pub reference-written : (end : ℕ) (target : Text) (x : List ℕ) → f / 16 % 2 ≡ 1 → name_at s mid ≡ got (text_bytes target) end → Packed target
+    pub reference-written : (end : ℕ) (target : Text) (x : List ℕ) → f / 16 % 2 ≡ 1 → name_at s mid ≡ got (text_bytes target) end
         → x ≡ name_cell (text_bytes target) → Columned (put_mid 53 25 part x) end
-    reference-written end target x t e h ex =
+    reference-written end target x t e ex =
         let on : bit 16 f ≡ true = rw t in
         columned (put_mid 53 25 part x) end (some (text_bytes target)) (sym on)
         (flagged-is (name_at s) (bit 16 (get_or s (a + 1) 0)) mid (text_bytes target) end (sym (ap (bit 16) z.flags-is) ∙ on) e)
-        (name-long target h)
         (ap (λ (l : List ℕ). put_mid 53 25 l x) b.is
         ∙ put_next 53 25 (leading y kind f ++ value_cell cell_width (or_default b.value null)) d x (simp length-append (omega (arith, y-long, b.wide)))
         ∙ ap (λ (l : List ℕ). ((leading y kind f ++ value_cell cell_width (or_default b.value null)) ++ l) ++ drop 78 d) ex)
@@ -281,7 +273,6 @@ module _ {p : Profile} {d : List ℕ} {name : Text} {y : List ℕ} {kind f : ℕ
         let off : bit 16 f ≡ false = ne_eqb (f / 16 % 2) 1 t in
         columned part mid none (sym off)
         (flagged-none (name_at s) (bit 16 (get_or s (a + 1) 0)) mid (sym (ap (bit 16) z.flags-is) ∙ off))
-        (ap length no_name)
         (b.is ∙ skip 53 25 78 (leading y kind f ++ value_cell cell_width (or_default b.value null)) d over (omega arith)
         ∙ ap (λ (l : List ℕ). ((leading y kind f ++ value_cell cell_width (or_default b.value null)) ++ l) ++ drop 78 d) (sym no_name))
 
@@ -291,7 +282,7 @@ module _ {p : Profile} {d : List ℕ} {name : Text} {y : List ℕ} {kind f : ℕ
         (flagged-first (name_at s) (bit 16 (get_or s (a + 1) 0)) mid (sym (ap (bit 16) z.flags-is) ∙ rw t) (z.column.reference b.value mid b.read)) e
 
 -- what is got where it ends
-pub got-ends : {A : Type 0} (w : Read A) (d : A) (r : ℕ) → is_got w ≡ true → Ends r ≡ walked_as w → w ≡ got (got_or d w) r
+pub got-ends : {A : Type 0} (w : Read A) (d : A) (r : ℕ) → is_got w ≡ true → Ok r ≡ walked_as w → w ≡ got (got_or d w) r
 unfolding is_got walked_as got_or
 got-ends (got a n) d r h e = ap (λ (j : ℕ). got a j) (sym (ap offset e))
 got-ends (broken x) d r h e = absurd (true≢false (sym h))
@@ -364,14 +355,14 @@ columns-next p cs c =
     ∙ joined-append (map (column_record p) cs) (column_record p c ∷ [])
     ∙ ap (λ (l : List ℕ). joined (map (column_record p) cs) ++ l) (append-nil (column_record p c))
 
-pub record Schemed (p : Profile) (s lead : List ℕ) (count begin : ℕ) (out : List ℕ) (left from q : ℕ) : Type 0 where
+pub record Schemed (p : Profile) (s lead : List ℕ) (count begin : ℕ) (out : List ℕ) (i from q : ℕ) : Type 0 where
   pub coded : Coded p
   pub bytes : Bytes s
   pub within : count ≤ p.columns
   pub done : List Column
-  pub few : length done + left ≡ count
-  pub ahead : is_got (times (column_at s) left q) ≡ true
-  pub rest : (cs : List Column) (e : ℕ) → times (column_at s) left q ≡ got cs e → times (column_at s) count begin ≡ got (done ++ cs) e
+  pub few : length done ≡ i
+  pub ahead : is_got (times (column_at s) (count - i) q) ≡ true
+  pub rest : (cs : List Column) (e : ℕ) → times (column_at s) (count - i) q ≡ got cs e → times (column_at s) count begin ≡ got (done ++ cs) e
   pub from_is : from ≡ 27 + length done * column_width p
   pub front : length (lead ++ columns_bytes p done) ≡ from
   pub is : out ≡ (lead ++ columns_bytes p done) ++ drop from (replicate (schema_width p) 0)
@@ -384,7 +375,7 @@ clear-front w n h =
     ∙ take_at (replicate w 0) (replicate (n - w) 0) w (length-replicate w 0)
 
 pub schema-start : (p : Profile) (s lead : List ℕ) (count begin : ℕ) → Coded p → Bytes s → count ≤ p.columns → (out : List ℕ) → length lead ≡ 27
-    → out ≡ lead ++ drop 27 (replicate (schema_width p) 0) → is_got (times (column_at s) count begin) ≡ true → Schemed p s lead count begin out count 27 begin
+    → out ≡ lead ++ drop 27 (replicate (schema_width p) 0) → is_got (times (column_at s) count begin) ≡ true → Schemed p s lead count begin out 0 27 begin
 unfolding columns_bytes joined
 schema-start p s lead count begin k b w out l e h =
     record {
@@ -392,15 +383,15 @@ schema-start p s lead count begin k b w out l e h =
       bytes = b;
       within = w;
       done = [];
-      few = omega arith;
-      ahead = h;
-      rest = λ cs e x. x;
+      few = refl;
+      ahead = rw (sub-zero count) h;
+      rest = λ cs e x. rw (sub-zero count) at x;
       from_is = rw (zero-mul (column_width p));
       front = ap length (append-nil lead) ∙ l;
       is = e ∙ ap (λ (x : List ℕ). x ++ drop 27 (replicate (schema_width p) 0)) (sym (append-nil lead));
     }
 
-module _ {p : Profile} {s lead : List ℕ} {count begin : ℕ} {out : List ℕ} {left from q : ℕ} (x : Schemed p s lead count begin out left from q) where
+module _ {p : Profile} {s lead : List ℕ} {count begin : ℕ} {out : List ℕ} {i from q : ℕ} (x : Schemed p s lead count begin out i from q) (at_most : i ≤ count) where
   from-most : from ≤ schema_width p
   unfolding schema_width
   from-most =
@@ -412,7 +403,13 @@ module _ {p : Profile} {s lead : List ℕ} {count begin : ℕ} {out : List ℕ} 
       ap length x.is ∙ length-append (lead ++ columns_bytes p x.done) (drop from (replicate (schema_width p) 0))
       ∙ omega (arith, from-most, x.front, length-drop {A = ℕ} from (replicate (schema_width p) 0), length-replicate {A = ℕ} (schema_width p) 0)
 
-  module _ (more : 0 < left) (w : ℕ) (ew : w ≡ column_width p) where
+  module _ (more : i < count) {w : ℕ} (ew : w ≡ column_width p) where
+    left : 0 < count - i
+    left = omega arith
+
+    less : count - i - 1 ≡ count - (i + 1)
+    less = omega arith
+
     pub column-room : from + w ≤ schema_width p
     column-room = omega (arith, x.from_is, x.few, ew, column-within p (length x.done) (omega (arith, x.few, x.within)))
 
@@ -432,15 +429,15 @@ module _ {p : Profile} {s lead : List ℕ} {count begin : ℕ} {out : List ℕ} 
       x.coded,
       ap length part-is ∙ length-replicate w 0 ∙ ew,
       ap zeros part-is ∙ replicate-zeros w,
-      next-first (column_at s) left q more x.ahead,
+      next-first (column_at s) (count - i) q left x.ahead,
     )
 
-    module _ (y : List ℕ) (r : ℕ) (ey : y ≡ column_record p (column_of (column_at s q))) (er : Ends r ≡ walked_as (column_at s q)) where
+    module _ {y : List ℕ} {r : ℕ} (ey : y ≡ column_record p (column_of (column_at s q))) (er : Ok r ≡ walked_as (column_at s q)) where
       abbrev c : Column
       c = column_of (column_at s q)
 
       read : column_at s q ≡ got c r
-      read = got-ends (column_at s q) no_column r (next-first (column_at s) left q more x.ahead) er
+      read = got-ends (column_at s q) no_column r (next-first (column_at s) (count - i) q left x.ahead) er
 
       y-wide : length y ≡ w
       y-wide = ap length ey ∙ column-long p x.coded.known.cell c (column-good c (column-fine s x.bytes q c r read)) ∙ sym ew
@@ -450,7 +447,7 @@ module _ {p : Profile} {s lead : List ℕ} {count begin : ℕ} {out : List ℕ} 
           append_assoc lead (columns_bytes p x.done) y
           ∙ ap (λ (l : List ℕ). lead ++ l) (ap (λ (l : List ℕ). columns_bytes p x.done ++ l) ey ∙ sym (columns-next p x.done c))
 
-      pub schema-next : Schemed p s lead count begin (put_mid from (from + w - from) out y) (left - 1) (from + w) r
+      pub schema-next : Schemed p s lead count begin (put_mid from (from + w - from) out y) (i + 1) (from + w) r
       schema-next =
           record {
             coded = x.coded;
@@ -458,8 +455,8 @@ module _ {p : Profile} {s lead : List ℕ} {count begin : ℕ} {out : List ℕ} 
             within = x.within;
             done = x.done ++ (c ∷ []);
             few = omega (arith, x.few, length-append x.done (c ∷ []));
-            ahead = next-rest (column_at s) left q c r more read x.ahead;
-            rest = λ cs e h. x.rest (c ∷ cs) e (next-whole (column_at s) left q c r cs e more read h) ∙ ap (λ (l : List Column). got l e) (sym (append_assoc x.done (c ∷ []) cs));
+            ahead = rw less at (next-rest (column_at s) (count - i) q c r left read x.ahead);
+            rest = λ cs e h. x.rest (c ∷ cs) e (next-whole (column_at s) (count - i) q c r cs e left read (rw (← less) at h)) ∙ ap (λ (l : List Column). got l e) (sym (append_assoc x.done (c ∷ []) cs));
             from_is =
                 let n : length (x.done ++ (c ∷ [])) ≡ suc (length x.done) = length-append x.done (c ∷ []) ∙ omega arith in
                 omega (arith, x.from_is, ew, ap (λ (m : ℕ). m * column_width p) n ∙ suc-mul (length x.done) (column_width p));
@@ -502,13 +499,13 @@ module _ (p : Profile) (d : List ℕ) (long : length d ≡ schema_width p) (clea
       ∙ ap (λ (l : List ℕ). leading (name_cell (text_bytes name)) key n ++ drop 27 l) (zeros-are d clear ∙ ap {B = List ℕ} (λ (m : ℕ). replicate m 0) long)
 
 -- all of it is written
-pub schema-written : {p : Profile} {s name : List ℕ} {at a key n : ℕ} {lead out : List ℕ} {left from q : ℕ} → SchemaGot s p at a name → key ≡ get_or s a 0 → n ≡ get_or s (a + 1) 0
-    → lead ≡ leading (name_cell name) key n → length lead ≡ 27 → Schemed p s lead n (a + 2) out left from q → left ≤ 0 → out ≡ table_record p (table_of (create_at s p at))
+pub schema-written : {p : Profile} {s name : List ℕ} {at a key n : ℕ} {lead out : List ℕ} {i from q : ℕ} → SchemaGot s p at a name → key ≡ get_or s a 0 → n ≡ get_or s (a + 1) 0
+    → lead ≡ leading (name_cell name) key n → length lead ≡ 27 → Schemed p s lead n (a + 2) out i from q → i ≡ n → out ≡ table_record p (table_of (create_at s p at))
 unfolding table_record pad got_or columns_bytes schema_width
-schema-written {p} {s} {name} {at} {a} {key} {n} {lead} {out} {left} {from} {q} g ek en el ll x h =
+schema-written {p} {s} {name} {at} {a} {key} {n} {lead} {out} {i} {from} {q} g ek en el ll x h =
     let cs : List Column = x.done ++ [] in
     let same : cs ≡ x.done = append-nil x.done in
-    let z : times (column_at s) left q ≡ got [] q = none_left (column_at s) left q h in
+    let z : times (column_at s) (n - i) q ≡ got [] q = none_left (column_at s) (n - i) q (omega arith) in
     let r : create_at s p at ≡ got (Create (record { name = name; key = key; columns = x.done })) q =
     g.whole x.done q (ap (λ (m : ℕ). times (column_at s) m (a + 2)) (sym en) ∙ x.rest [] q z ∙ ap (λ (l : List Column). got l q) same)
     ∙ ap (λ (k : ℕ). got (Create (record { name = name; key = k; columns = x.done })) q) (sym ek) in
@@ -589,7 +586,7 @@ pub create-inside : {p : Profile} {R : ℕ} {s : List ℕ} {at : ℕ} → Create
     → said a ≡ no InsideBatch 0 → Acted p R (create_at s p at) b j b j a
 unfolding act got_or
 create-inside {p} {R} g {b} {j} {a} bk h e =
-    subst (λ (w : Read Request). Settled p R (act p R (books_of p R b j) (got_or Names w)) b j b j a) (sym g.is) (inside-refused bk (create p (parse p R b) g.table) h a e)
+    subst (λ (w : Read Request). Settled p R (act p R (books_of p R b j) (got_or Names w)) b j b j a) (sym g.is) (inside-refused bk (create p (parse p R b) g.table) h e)
 
 -- the room that it is written in
 pub schema-room : (p : Profile) → Coded p → p.columns ≤ 8 → schema_width p ≤ 651

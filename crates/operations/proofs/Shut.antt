@@ -1,16 +1,17 @@
 -- Operations outside a batch: 44 while one is open; else the journal's bytes stay. Assumes nothing.
-use Prim.Native.Nat.{ℕ}
+use Prim.Native.Nat.{ℕ, ◌≤◌}
+use native.Mathlib.Omega.{arith}
 use mathlib.Core.Path.{◌≡◌, refl, sym, ◌∙◌, ap}
 use mathlib.Core.Bool.{Bool, true, false, not, cond}
 use mathlib.Core.List.{List, [], ◌∷◌, ◌++◌, map}
 use mathlib.Core.Option.{none, some}
 use lib.Dec.{eqb}
-use lib.ListN.{get_or}
+use lib.ListN.{length, get_or}
 use Rattle.values.specs.Basic.{is_some}
 use Rattle.areas.specs.Sorted.{All}
 use Rattle.rules.specs.declared.profile.Profile.{Profile}
-use Rattle.rules.specs.declared.answer.Answer.{Answer}
-use Rattle.rules.specs.declared.answer.Refusal.TheVariants.{InsideBatch}
+use Rattle.rules.specs.Request.{Answer}
+use Rattle.rules.specs.Refusal.{InsideBatch}
 use Rattle.rules.specs.State.{Name, Table, Row, State, rows_of}
 use Rattle.rules.specs.Journal.{Event, Journal, is_open}
 use Rattle.rules.specs.Pages.{journal_image, parse_journal, books_of}
@@ -20,6 +21,8 @@ use Rattle.rules.proofs.Backed.{closed}
 use Rattle.rules.proofs.Tests.{by-option, by_cond}
 use Rattle.laid.specs.Store.{Stored}
 use Rattle.journal.specs.Books.{Booked, Settled}
+use Rattle.journal.proofs.Booking.{laid-books, journaled}
+use Rattle.journal.proofs.Noting.{book-long}
 use Rattle.store.proofs.Settling.{left_alone}
 
 -- ---- whether a batch is open, as the code asks
@@ -77,9 +80,12 @@ drop-quiet s n x =
 
 -- ---- 44, or what comes to the same as without a journal
 
+pub journal-there : {p : Profile} {R : ℕ} {s j : List ℕ} → Booked p R s j → 1 ≤ length j
+journal-there b = omega (arith, book-long (journaled (laid-books b)))
+
 module _ {p : Profile} {R : ℕ} {s j : List ℕ} (b : Booked p R s j) (o : Outcome) where
-  pub inside-refused : not (eqb (get_or j 0 0) 0) ≡ true → (a : Answer) → said a ≡ no InsideBatch 0 → Settled p R (outside (books_of p R s j) o) s j s j a
-  inside-refused h a g = left_alone b (outside (books_of p R s j) o) (no InsideBatch 0) (rw (sym (opens_as p R s j) ∙ h)) a g
+  pub inside-refused : not (eqb (get_or j 0 0) 0) ≡ true → {a : Answer} → said a ≡ no InsideBatch 0 → Settled p R (outside (books_of p R s j) o) s j s j a
+  inside-refused h {a} g = left_alone b (outside (books_of p R s j) o) (no InsideBatch 0) (rw (sym (opens_as p R s j) ∙ h)) a g
 
   pub outside-settled : not (eqb (get_or j 0 0) 0) ≡ false → All Quiet o.changes → {s₁ : List ℕ} {a : Answer} → Stored p R o s s₁ a
       → Settled p R (outside (books_of p R s j) o) s j s₁ j a

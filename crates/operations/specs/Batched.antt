@@ -1,7 +1,7 @@
 -- An operation of a batch that leaves the store: what it comes to beside any store. Assumes nothing.
 use Rattle.std.specs.Prelude.{ℕ, List}
 use Rattle.rules.specs.declared.profile.Profile.{Profile}
-use Rattle.rules.specs.declared.answer.Answer.{Answer}
+use Rattle.rules.specs.Request.{Answer}
 use Rattle.rules.specs.Journal.{Books}
 use Rattle.rules.specs.Pages.{books_of}
 use Rattle.rules.specs.Step.{Outcome}

@@ -1,3 +1,4 @@
 pub mod Told
 pub mod Created
 pub mod Batched
+pub mod Counted

@@ -2,8 +2,8 @@
 use Rattle.std.specs.Prelude.{ℕ, ◌≡◌, Bool, ◌&&◌, List, ltb}
 use Rattle.forms.specs.Read.{Read, got, broken}
 use Rattle.rules.specs.declared.profile.Profile.{Profile}
-use Rattle.rules.specs.declared.answer.Answer.{Answer}
-use Rattle.rules.specs.declared.answer.Refusal.TheVariants.{RecordBroken}
+use Rattle.rules.specs.Request.{Answer}
+use Rattle.rules.specs.Refusal.{RecordBroken}
 use Rattle.rules.specs.Journal.{Journal, Books}
 use Rattle.rules.specs.Layout.{parse}
 use Rattle.rules.specs.Request.{Request, Names, said, no}

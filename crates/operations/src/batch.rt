@@ -6,8 +6,7 @@ ghost use Rattle.journal.specs.Books.{Booked, Settled};
 ghost use Rattle.operations.specs.Batched.{Batched};
 
 use journal::{back, page};
-use rules::answer;
-use rules::answer::{Answer, Refusal};
+use rules::answer::{Answer, Refusal, Refused};
 use rules::profile::Profile;
 
 pub fn open(j: &mut [u8]) -> Answer
@@ -15,10 +14,10 @@ pub fn open(j: &mut [u8]) -> Answer
     ensures { Batched open_batch j.old j.new result }
 {
     if page::is_open(j) {
-        return answer::refused(Refusal::BatchOutOfTurn, 0);
+        return Err(Refused::new(Refusal::BatchOutOfTurn, 0));
     }
     page::open(j);
-    answer::accepted(0)
+    Ok(0)
 }
 
 pub fn keep(j: &mut [u8]) -> Answer
@@ -26,10 +25,10 @@ pub fn keep(j: &mut [u8]) -> Answer
     ensures { Batched keep_batch j.old j.new result }
 {
     if !page::is_open(j) {
-        return answer::refused(Refusal::BatchOutOfTurn, 0);
+        return Err(Refused::new(Refusal::BatchOutOfTurn, 0));
     }
     page::close(j);
-    answer::accepted(0)
+    Ok(0)
 }
 
 // From the last place to the first, what stood at each key stands there again.
@@ -38,9 +37,9 @@ pub fn back(s: &mut [u8], p: Profile, places: usize, j: &mut [u8]) -> Answer
     ensures { Settled p places (take_back (books_of p places s.old j.old)) s.old j.old s.new j.new result }
 {
     if !page::is_open(j) {
-        return answer::refused(Refusal::BatchOutOfTurn, 0);
+        return Err(Refused::new(Refusal::BatchOutOfTurn, 0));
     }
     back::unwind(s, p, places, j);
     page::close(j);
-    answer::accepted(0)
+    Ok(0)
 }

@@ -1,6 +1,6 @@
 // Framing: given the bytes at hand, where the next record ends, or how many bytes to skip, or that more are needed, or that all stops.
 ghost use Rattle.std.specs.Prelude.{◌≡◌};
-ghost use Rattle.records.specs.Frame.{framed};
+ghost use Rattle.records.specs.Frame.{framed, short};
 
 #[derive(Clone, Copy)]
 pub enum Framed {
@@ -18,35 +18,30 @@ pub enum Framed {
 // What a record's two length bytes may say at the most.
 const RECORD_MOST: usize = 4096;
 
+// Where bytes are missing: cut off at the end of the input, else more are needed.
+fn short(ended: bool) -> Framed
+    ensures { result ≡ short ended }
+{
+    if ended { Framed::Cut } else { Framed::More }
+}
+
 // What comes next; `ended` says that the input has no more bytes than these.
+#[tactic(auto, using(crate::proofs::Framing::empty, crate::proofs::Framing::missing, crate::proofs::Framing::bad_length, crate::proofs::Framing::cut, crate::proofs::Framing::whole))]
 pub fn next_record(s: &[u8], ended: bool) -> Framed
     ensures { result ≡ framed s.now ended }
 {
-    let n = s.len();
-    if n == 0 {
-        if ended {
-            return Framed::Done;
+    match s {
+        [high, low, rest @ ..] => {
+            let long = usize::from(*high) * 256 + usize::from(*low);
+            if long < 2 || RECORD_MOST < long {
+                Framed::Skip(2 + long)
+            } else if rest.len() < long {
+                short(ended)
+            } else {
+                Framed::Whole(2 + long)
+            }
         }
-        return Framed::More;
+        [] if ended => Framed::Done,
+        _ => short(ended),
     }
-    if n == 1 {
-        if ended {
-            return Framed::Cut;
-        }
-        return Framed::More;
-    }
-    let long = (s[0] as usize) * 256 + (s[1] as usize);
-    if long < 2 {
-        return Framed::Skip(2 + long);
-    }
-    if RECORD_MOST < long {
-        return Framed::Skip(2 + long);
-    }
-    if n < 2 + long {
-        if ended {
-            return Framed::Cut;
-        }
-        return Framed::More;
-    }
-    Framed::Whole(2 + long)
 }

@@ -4,7 +4,8 @@ ghost use Rattle.std.specs.Prelude.{◌≡◌};
 ghost use Rattle.forms.specs.Read.{NameRead, CellRead};
 
 use forms::read;
-use forms::read::{ReadCell, ReadName};
+use forms::read::Broken;
+use values::value::{Cell, Text};
 
 #[derive(Clone, Copy)]
 pub struct Reader<'a> {
@@ -21,14 +22,14 @@ pub fn reader_at<'a>(bytes: &'a [u8], at: usize) -> Reader<'a>
 
 impl<'a> Reader<'a> {
     // The name at its position.
-    pub fn name(self) -> ReadName
+    pub fn name(self) -> Result<(Text, usize), Broken>
         ensures { NameRead self.entry.bytes.now self.entry.at result }
     {
         read::name_at(self.bytes, self.at)
     }
 
     // The value at its position.
-    pub fn value(self) -> ReadCell
+    pub fn value(self) -> Result<(Cell, usize), Broken>
         ensures { CellRead self.entry.bytes.now self.entry.at result }
     {
         read::value_at(self.bytes, self.at)
@@ -36,14 +37,14 @@ impl<'a> Reader<'a> {
 }
 
 // The name at a position of a record.
-pub fn name_at(bytes: &[u8], at: usize) -> ReadName
+pub fn name_at(bytes: &[u8], at: usize) -> Result<(Text, usize), Broken>
     ensures { NameRead bytes.now at result }
 {
     reader_at(bytes, at).name()
 }
 
 // The value at a position of a record.
-pub fn value_at(bytes: &[u8], at: usize) -> ReadCell
+pub fn value_at(bytes: &[u8], at: usize) -> Result<(Cell, usize), Broken>
     ensures { CellRead bytes.now at result }
 {
     reader_at(bytes, at).value()

@@ -31,7 +31,7 @@ fn part<F: Read>(from: &mut F, out: &mut [u8]) -> usize
     if out.len() < n {
         return 0;
     }
-    match from.read_exact(&mut out[0..n]) {
+    match from.read_exact(&mut out[..n]) {
         Ok(()) => n,
         Err(_) => 0,
     }
@@ -46,22 +46,15 @@ fn agrees(
     after: &[u8],
     left: &[u8],
 ) -> bool {
-    let mut out = [0u8; 65536];
-    fresh::fresh(store);
-    let r = entry::many(store, journal, records, true, 0, &mut out);
-    let halt = r.halt;
-    match halt {
-        Halt::Stopped => {
-            if out.len() < r.written {
-                return false;
-            }
-            let n = r.written;
-            bytes::same_bytes(&out[0..n], lines)
-                && bytes::same_bytes(store, after)
-                && bytes::same_bytes(journal, left)
-        }
-        _ => false,
+    if fresh::fresh(store).is_err() {
+        return false;
     }
+    let mut out = [0u8; 65536];
+    let r = entry::many(store, journal, records, true, 0, &mut out);
+    matches!(r.halt, Halt::Stopped)
+        && out.get(..r.written) == Some(lines)
+        && *store == *after
+        && *journal == *left
 }
 
 // Room for a store with 70 row places.
@@ -93,32 +86,26 @@ fn case<F: Read>(from: &mut F, places: usize, batch: usize) -> bool
     let m = part(from, &mut lines);
     let k = part(from, &mut after);
     let size = 10428 + 779 * places;
-    if batch == 0 {
-        return agrees(
-            &mut store[0..size],
-            &mut journal[0..237],
-            &records[0..n],
-            &lines[0..m],
-            &after[0..k],
-            &left[0..237],
-        );
-    }
-    let l = part(from, &mut left);
-    let pages = 3 + 234 * batch;
+    let pages = 3 + 234 * batch.max(1);
+    let l = if batch == 0 {
+        pages
+    } else {
+        part(from, &mut left)
+    };
     agrees(
-        &mut store[0..size],
-        &mut journal[0..pages],
-        &records[0..n],
-        &lines[0..m],
-        &after[0..k],
-        &left[0..l],
+        &mut store[..size],
+        &mut journal[..pages],
+        &records[..n],
+        &lines[..m],
+        &after[..k],
+        &left[..l],
     )
 }
 
 #[derive(Clone, Copy)]
 struct Tally {
-    pub agree: u64,
-    pub differ: u64,
+    agree: u64,
+    differ: u64,
 }
 
 // All cases of a list.
@@ -127,8 +114,7 @@ fn all_cases<F: Read>(from: &mut F) -> Tally {
         agree: 0,
         differ: 0,
     };
-    let mut left: u64 = 1000000;
-    while 0 < left {
+    for _ in 0..1000000u64 {
         let sizes = four(from);
         let batch = sizes / 65536;
         let places = sizes % 65536;
@@ -140,7 +126,6 @@ fn all_cases<F: Read>(from: &mut F) -> Tally {
         } else {
             t.differ += 1;
         }
-        left -= 1;
     }
     t
 }
@@ -149,9 +134,7 @@ fn all_cases<F: Read>(from: &mut F) -> Tally {
 fn replay<R: Files + Print + Eprint>(rt: &R, path: &str) {
     match File::open(rt, path) {
         Ok(mut list) => {
-            let t = all_cases(&mut list);
-            let agree = t.agree;
-            let differ = t.differ;
+            let Tally { agree, differ } = all_cases(&mut list);
             let _told = println!(rt; "{path} agree {agree} differ {differ}");
         }
         Err(e) => {

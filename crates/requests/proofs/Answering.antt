@@ -1,4 +1,7 @@
 -- A record answered: a write shows no row lines, the line of an answer without them, and what is answered for each kind of record. Assumes nothing.
+use Rattle.records.specs.Walked.{Walked}
+use Rattle.std.specs.Result.{is_err}
+use Rattle.std.specs.declared.result.Result.TheVariants.{Ok, Err}
 use Prim.Native.Nat.{ℕ, ◌≤◌}
 use native.Mathlib.Omega.{arith}
 use mathlib.Core.Path.{◌≡◌, refl, sym, ap, ◌∙◌}
@@ -12,8 +15,8 @@ use Rattle.values.specs.Value.{Value}
 use Rattle.forms.specs.Read.{Read, got, broken, name_at}
 use Rattle.forms.specs.Print.{Front}
 use Rattle.rules.specs.declared.profile.Profile.{Profile}
-use Rattle.rules.specs.declared.answer.Answer.{Answer}
-use Rattle.rules.specs.declared.answer.Refusal.TheVariants.{RecordBroken}
+use Rattle.rules.specs.Request.{Answer}
+use Rattle.rules.specs.Refusal.{RecordBroken}
 use Rattle.rules.specs.Journal.{Books}
 use Rattle.rules.specs.Layout.{parse}
 use Rattle.rules.specs.Request.{Request, Delete, Names, Open, Keep, Back, entered, Reply, said, no}
@@ -23,8 +26,6 @@ use Rattle.rules.proofs.Refusals.{is_write, write-silent}
 use Rattle.journal.specs.Books.{Booked}
 use Rattle.journal.proofs.Booking.{settled-still}
 use Rattle.requests.specs.declared.lines.Put.{Put}
-use Rattle.records.specs.declared.record.Walked.{Walked}
-use Rattle.records.specs.declared.record.Walked.TheVariants.{Ends}
 use Rattle.mapping.specs.Got.{is_got, got_or}
 use Rattle.records.specs.Reading.{and_then, times, byte_at, byte_from}
 use Rattle.records.specs.Record.{values_at, column_at, create_at, drop_at, map_at, insert_at, pair_at, update_at, keys_at, operands_at, request_of}
@@ -150,8 +151,21 @@ pub record Walks (p : Profile) (rec : List ℕ) (k : ℕ) : Type 0 where
   pub walked : Walked
   pub is : walked ≡ walked_as (request_of rec p)
   pub end : ℕ
-  pub ends : walked ≡ Ends end
+  pub ends : walked ≡ Ok end
   pub operation : k ≡ get_or rec 1 0
+
+module _ (p : Profile) (rec : List ℕ) where
+  pub walk-ends : (w : Walked) → w ≡ walked_as (request_of rec p) → is_err w ≡ false → (k : ℕ) → k ≡ get_or rec 1 0 → Walks p rec k
+  walk-ends (Ok n) e h k ek = record { walked = Ok n; is = e; end = n; ends = refl; operation = ek }
+  walk-ends (Err b) e h k ek = absurd (true≢false h)
+
+  pub walk-breaks : (w : Walked) → w ≡ walked_as (request_of rec p) → is_err w ≡ true → (x : ℕ) × (request_of rec p ≡ broken x)
+  unfolding walked_as
+  walk-breaks w e h = go (request_of rec p) refl
+    where
+      go : (r : Read Request) → request_of rec p ≡ r → (x : ℕ) × (request_of rec p ≡ broken x)
+      go (got q n) f = absurd (true≢false (sym h ∙ ap is_err (e ∙ ap walked_as f)))
+      go (broken x) f = (x, f)
 
 module _ {p : Profile} {rec : List ℕ} {k : ℕ} (w : Walks p rec k) where
   abbrev operands : Read Request

@@ -9,7 +9,7 @@ use lib.ListN.{length, replicate}
 use lib.Seq.{take_all}
 use Rattle.values.specs.Bytes.{Bytes}
 use Rattle.forms.specs.Read.{Read, got, broken}
-use Rattle.rules.specs.declared.answer.Answer.{Answer}
+use Rattle.rules.specs.Request.{Answer}
 use Rattle.rules.specs.Profile.{full}
 use Rattle.rules.specs.Journal.{Books, is_open}
 use Rattle.rules.specs.Layout.{image, parse, places_of}

@@ -4,8 +4,8 @@ use mathlib.Core.Path.{◌≡◌, refl, sym, ◌∙◌, ap, subst}
 use mathlib.Core.Bool.{Bool, true, false, true≢false}
 use mathlib.Core.List.{List, [], ◌∷◌, ◌++◌}
 use Rattle.forms.specs.Read.{Read, got, broken}
-use Rattle.rules.specs.declared.answer.Answer.{Answer}
-use Rattle.rules.specs.declared.answer.Refusal.TheVariants.{RecordBroken, StoreUnsound}
+use Rattle.rules.specs.Request.{Answer}
+use Rattle.rules.specs.Refusal.{RecordBroken, StoreUnsound}
 use Rattle.rules.specs.Profile.{full}
 use Rattle.rules.specs.Journal.{Books}
 use Rattle.rules.specs.Layout.{places_of}

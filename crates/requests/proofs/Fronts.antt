@@ -1,27 +1,29 @@
 -- A front of a buffer, and what is written behind it. Assumes nothing.
 use Prim.Native.Nat.{ℕ, suc, ◌+◌, ◌-◌, ◌≤◌, ◌<◌}
 use mathlib.Core.Path.{◌≡◌, refl, sym, ap, ◌∙◌, subst}
-use mathlib.Core.Bool.{true, false, cond}
+use mathlib.Core.Bool.{false, cond}
 use mathlib.Core.List.{List, [], ◌∷◌, ◌++◌, append-nil, append_assoc}
 use native.Mathlib.Omega.{arith}
 use native.Mathlib.Numerals.{add-one}
+use lib.Dec.{eqb}
 use lib.ListN.{length, get_or, take, drop, set, length-append, length-drop, length-set, take-append-drop}
 use lib.Seq.{length-take-le, take_all, take_at, drop_at, drop-drop, drop-cons, set_at, drop-length}
 use borrow.Rule.Slice.PartMut.{put_mid}
 use Rattle.forms.specs.Print.{decimal, Front}
-use Rattle.rules.specs.Refusal.{number_of}
-use Rattle.rules.specs.Request.{Reply}
+use Rattle.std.specs.declared.option.Option.{Option}
+use Rattle.std.specs.declared.option.Option.TheVariants.{None, Some}
+use Rattle.rules.specs.declared.answer.Carried.{Carried}
+use Rattle.rules.specs.declared.answer.Refused.{Refused}
+use Rattle.rules.specs.declared.answer.Refusal.{Refusal}
+use Rattle.rules.specs.declared.answer.Refusal.TheVariants as V
+use Rattle.rules.specs.Refusal.{number_of, refusal_of}
+use Rattle.rules.specs.Request.{Reply, ok, told}
 use Rattle.rules.specs.Step.{is_accepted}
 use Rattle.requests.specs.Lines.{space, newline, answer_line}
 
--- two bytes
-pub front-two : (x y : ℕ) (out : List ℕ) → 2 ≤ length out → Front (x ∷ y ∷ []) out (set (set out 0 x) 1 y) 2
-front-two x y [] l = absurd (omega arith)
-front-two x y (a ∷ []) l = absurd (omega arith)
-front-two x y (a ∷ b ∷ out) l = record { count = refl; bytes = refl }
-
-pub two-long : (x y : ℕ) (out : List ℕ) → length (set (set out 0 x) 1 y) ≡ length out
-two-long x y out = length-set (set out 0 x) 1 y ∙ length-set out 0 x
+-- a word at the front
+pub front_word : (w out : List ℕ) (n : ℕ) → n ≡ length w → Front w out (w ++ drop n out) n
+front_word w out n e = record { count = e; bytes = refl }
 
 module _ (p out b : List ℕ) (n : ℕ) (f : Front p out b n) (l : n ≤ length out) where
   -- the buffer is as long as before
@@ -97,23 +99,85 @@ front-ended x a p out b n f l =
 
 -- ---- the two answers
 
-pub line_ok : (a : Reply) (out after : List ℕ) (r : ℕ) → is_accepted a ≡ true → 2 ≤ length out
-    → Front (take 2 (set (set out 0 111) 1 107) ++ (space ∷ (decimal a.count ++ (newline ∷ [])))) (set (set out 0 111) 1 107) after r
-    → Front (answer_line a) out after r
-unfolding answer_line
-line_ok a out after r e l g = rw e (front-on (111 ∷ 107 ∷ []) out (set (set out 0 111) 1 107) 2 (front-two 111 107 out l) l _ after r g)
+-- no refusal of the code has the number 0
+numbered : (k : Refusal) → eqb (number_of (refusal_of k)) 0 ≡ false
+numbered V.RecordBroken = refl
+numbered V.UnknownTable = refl
+numbered V.TableExists = refl
+numbered V.EmptyTableName = refl
+numbered V.NoColumns = refl
+numbered V.KeyColumnOutOfRange = refl
+numbered V.EmptyColumnName = refl
+numbered V.KeyNullable = refl
+numbered V.KeyNotUnique = refl
+numbered V.KeyIndexed = refl
+numbered V.NullableWithoutDefault = refl
+numbered V.NullDefault = refl
+numbered V.DefaultKind = refl
+numbered V.UniqueNotIndexed = refl
+numbered V.ReferenceNotIndexed = refl
+numbered V.UnknownTarget = refl
+numbered V.TargetKind = refl
+numbered V.ColumnTwice = refl
+numbered V.TablesFull = refl
+numbered V.TableReferenced = refl
+numbered V.TooManyValues = refl
+numbered V.MapCount = refl
+numbered V.NoDefault = refl
+numbered V.MapColumn = refl
+numbered V.RowSize = refl
+numbered V.KeyUndefined = refl
+numbered V.KeyExists = refl
+numbered V.WrongKind = refl
+numbered V.NullNotAllowed = refl
+numbered V.TargetMissing = refl
+numbered V.ValueExists = refl
+numbered V.RowReferenced = refl
+numbered V.RowsFull = refl
+numbered V.RowAbsent = refl
+numbered V.KeysNotRising = refl
+numbered V.NotIndexed = refl
+numbered V.StoreUnsound = refl
+numbered V.JournalFull = refl
+numbered V.InsideBatch = refl
+numbered V.BatchOutOfTurn = refl
 
-pub line-no : (a : Reply) (out b c after : List ℕ) (code gone n m r : ℕ) → is_accepted a ≡ false → code ≡ number_of a.kind → gone ≡ cond a.gone 1 0
-    → 2 ≤ length out → n ≤ length out → m ≤ length out
-    → Front (take 2 (set (set out 0 110) 1 111) ++ (space ∷ decimal code)) (set (set out 0 110) 1 111) b n
-    → Front (take n b ++ (space ∷ decimal a.at)) b c m
+-- what a refusal of the code says, whatever it carries
+pub record Tells (f : Refused) : Type 0 where
+  pub refused : is_accepted (told f) ≡ false
+  pub code : number_of (refusal_of f.kind) ≡ number_of (told f).kind
+  pub at : f.at ≡ (told f).at
+  pub count : (told f).count ≡ 0
+
+pub tells : (f : Refused) → Tells f
+tells f = go f.carried refl
+  where
+    go : (x : Option Carried) → f.carried ≡ x → Tells f
+    go None e = record { refused = rw e (numbered f.kind); code = rw e; at = rw e; count = rw e }
+    go (Some x) e = record { refused = rw e (numbered f.kind); code = rw e; at = rw e; count = rw e }
+
+-- the word w, which is v, and what was written behind it
+module _ (w v out : List ℕ) (e : w ≡ v) (ev : 2 ≡ length v) (l : 2 ≤ length out) where
+  pub behind_word : (q after : List ℕ) (r : ℕ) → Front (take 2 (w ++ drop 2 out) ++ q) (w ++ drop 2 out) after r → Front (v ++ q) out after r
+  behind_word q after r f = front-on v out (w ++ drop 2 out) 2 (rw e (front_word v out 2 ev)) l q after r f
+
+pub line_ok : (count : ℕ) (w out after : List ℕ) (r : ℕ) → w ≡ 111 ∷ 107 ∷ [] → 2 ≤ length out
+    → Front (take 2 (w ++ drop 2 out) ++ (space ∷ (decimal count ++ (newline ∷ [])))) (w ++ drop 2 out) after r
+    → Front (answer_line (ok count)) out after r
+unfolding answer_line
+line_ok count w out after r e l g = behind_word w (111 ∷ 107 ∷ []) out e refl l _ after r g
+
+pub line-no : (a : Reply) (w out b c after : List ℕ) (code at gone n m r : ℕ) → is_accepted a ≡ false → code ≡ number_of a.kind → at ≡ a.at → gone ≡ cond a.gone 1 0
+    → w ≡ 110 ∷ 111 ∷ [] → 2 ≤ length out → n ≤ length out → m ≤ length out
+    → Front (take 2 (w ++ drop 2 out) ++ (space ∷ decimal code)) (w ++ drop 2 out) b n
+    → Front (take n b ++ (space ∷ decimal at)) b c m
     → Front (take m c ++ (space ∷ (decimal gone ++ (newline ∷ [])))) c after r
     → Front (answer_line a) out after r
 unfolding answer_line
-line-no a out b c after code gone n m r e ec eg l ln lm f h k =
-    let at = decimal a.at in
+line-no a w out b c after code at gone n m r e ec ea eg ew l ln lm x h k =
+    let second = decimal at in
     let end = decimal gone ++ (newline ∷ []) in
-    let one = front-on (110 ∷ 111 ∷ []) out (set (set out 0 110) 1 111) 2 (front-two 110 111 out l) l (space ∷ decimal code) b n f in
-    let two = front-on (110 ∷ 111 ∷ space ∷ decimal code) out b n one ln (space ∷ at) c m h in
-    let three = front-on ((110 ∷ 111 ∷ space ∷ decimal code) ++ (space ∷ at)) out c m two lm (space ∷ end) after r k in
-    rw (e, ← eg, ← ec) (subst (λ (q : List ℕ). Front (110 ∷ 111 ∷ space ∷ q) out after r) (append_assoc (decimal code) (space ∷ at) (space ∷ end)) three)
+    let one = behind_word w (110 ∷ 111 ∷ []) out ew refl l (space ∷ decimal code) b n x in
+    let two = front-on (110 ∷ 111 ∷ space ∷ decimal code) out b n one ln (space ∷ second) c m h in
+    let three = front-on ((110 ∷ 111 ∷ space ∷ decimal code) ++ (space ∷ second)) out c m two lm (space ∷ end) after r k in
+    rw (e, ← eg, ← ea, ← ec) (subst (λ (q : List ℕ). Front (110 ∷ 111 ∷ space ∷ q) out after r) (append_assoc (decimal code) (space ∷ second) (space ∷ end)) three)

@@ -3,19 +3,15 @@ use Prim.Native.Nat.{ℕ, ◌-◌, ◌≤◌, ◌<◌}
 use native.Mathlib.Omega.{arith}
 use mathlib.Core.Path.{◌≡◌, refl, sym, ap, ◌∙◌, subst}
 use mathlib.Core.Bool.{Bool, true, false, cond, true≢false}
-use mathlib.Core.List.{List, [], ◌∷◌}
+use mathlib.Core.List.{List, []}
 use lib.ListN.{length, take, drop, length-drop}
 use lib.Seq.{take_all}
 use borrow.Author.Tests.{eq-eqb, ne_eqb, le-leb, lt-leb}
-use types.Run.{OneOf}
-use denote.Enum.Declared.{tag_of}
-use mathlib.Core.Logic.{⊎_elim}
-use Rattle.records.specs.contracts.frame.Framed.{the_type}
 use Rattle.forms.specs.Print.{Front}
 use Rattle.forms.specs.Read.{Read, broken}
 use Rattle.rules.specs.declared.profile.Profile.{Profile}
-use Rattle.rules.specs.declared.answer.Answer.{Answer}
-use Rattle.rules.specs.declared.answer.Refusal.TheVariants.{RecordBroken, StoreUnsound}
+use Rattle.rules.specs.Request.{Answer}
+use Rattle.rules.specs.Refusal.{RecordBroken, StoreUnsound}
 use Rattle.rules.specs.Profile.{full, Indexed}
 use Rattle.rules.specs.Journal.{Books}
 use Rattle.rules.specs.Layout.{places_of}
@@ -69,6 +65,10 @@ pub lent-unsound : {p : Profile} {q : Read Request} {s j : List ℕ} → sound_b
 unfolding lent_outcome
 lent-unsound h f = record { answer = f ∙ rw h; sound = λ t. absurd (true≢false (sym t ∙ h)); unsound = λ t. (refl, refl) }
 
+-- the test failed, and 38 is answered
+pub lent-untested : {q : Read Request} {s j t u : List ℕ} {b : Bool} {a : Answer} → (b ≡ sound_books full s j) × (t ≡ s) × (u ≡ j) → b ≡ false → said a ≡ no StoreUnsound 0 → Lent full q s j t u a
+lent-untested e h f = lent-from e.1 e.2 (lent-unsound (tested e h) f)
+
 -- sound buffers are as the outcome says
 pub lent-settled : {p : Profile} {q : Read Request} {R : ℕ} {s j s₁ j₁ : List ℕ} {a : Answer} → R ≡ places_of p s → sound_books p s j ≡ true
     → Settled p R (outcome_of p R (books_of p R s j) q) s j s₁ j₁ a
@@ -100,21 +100,21 @@ module _ (p : Profile) (rec : List ℕ) (f : Framed) (e : f ≡ framed rec true)
     pub whole-longer : (n ≡ length rec → ⊥) → whole_of p rec ≡ broken 0
     whole-longer l = whole_by ∙ ap (whole_as p rec) h ∙ rw (ne_eqb n (length rec) l)
 
-    pub whole_says : n ≡ length rec → whole_of p rec ≡ request_of (take (n - 2) (drop 2 rec)) p
+    pub whole_says : n ≡ length rec → whole_of p rec ≡ request_of (take (length rec - 2) (drop 2 rec)) p
     whole_says l =
-        let k : length (drop 2 rec) ≤ n - 2 = rw (length-drop 2 rec) (omega arith) in
-        whole_by ∙ ap (whole_as p rec) h ∙ rw (eq-eqb n (length rec) l, take_all (n - 2) (drop 2 rec))
+        let k : length (drop 2 rec) ≤ length rec - 2 = rw (length-drop 2 rec) (omega arith) in
+        whole_by ∙ ap (whole_as p rec) h ∙ rw (eq-eqb n (length rec) l, take_all (length rec - 2) (drop 2 rec))
 
-  pub no_whole : (m : Framed) → f ≡ m → whole_as p rec m ≡ broken 0 → whole_of p rec ≡ broken 0
-  no_whole m h k = whole_by ∙ ap (whole_as p rec) h ∙ k
-
--- any other frame: its tag is not the first
-pub not-whole : (p : Profile) (rec : List ℕ) (f : Framed) → OneOf (1 ∷ 2 ∷ 3 ∷ 4 ∷ []) (tag_of the_type f) → whole_as p rec f ≡ broken 0
-not-whole p rec (Whole n) h = absurd (⊎_elim (λ e. omega arith) (λ k. ⊎_elim (λ e. omega arith) (λ j. ⊎_elim (λ e. omega arith) (λ e. omega arith) j) k) h)
-not-whole p rec (Skip n) h = refl
-not-whole p rec More h = refl
-not-whole p rec Cut h = refl
-not-whole p rec Done h = refl
+  -- any other frame
+  pub no_whole : ((n : ℕ) → f ≡ Whole n → ⊥) → whole_of p rec ≡ broken 0
+  no_whole h = whole_by ∙ go f h
+    where
+      go : (m : Framed) → ((n : ℕ) → m ≡ Whole n → ⊥) → whole_as p rec m ≡ broken 0
+      go (Whole n) k = absurd (k n refl)
+      go (Skip n) k = refl
+      go More k = refl
+      go Cut k = refl
+      go Done k = refl
 
 -- ---- many records over unsound buffers
 

@@ -2,7 +2,7 @@
 use Prim.Native.Nat.{ℕ, suc, ◌+◌, ◌-◌, ◌≤◌, ◌<◌, max}
 use native.Mathlib.Nat.{sub-zero}
 use native.Mathlib.Omega.{arith}
-use mathlib.Core.Path.{◌≡◌, refl, sym, ap, ◌∙◌, subst}
+use mathlib.Core.Path.{◌≡◌, refl, sym, ap, ◌∙◌}
 use mathlib.Core.Bool.{Bool, true, false, cond, not, ◌&&◌, true≢false}
 use mathlib.Core.List.{List, [], ◌∷◌, ◌++◌, map, map-map, append-nil, append_assoc}
 use lib.ListN.{length, take, drop, length-append, length-drop, drop_of_length-le}
@@ -15,7 +15,7 @@ use Rattle.forms.specs.Read.{Read, got, broken}
 use Rattle.forms.specs.Print.{Front}
 use Rattle.areas.proofs.Sorting.{keep-length}
 use Rattle.rules.specs.declared.profile.Profile.{Profile}
-use Rattle.rules.specs.declared.answer.Refusal.TheVariants.{NotIndexed, UnknownTable}
+use Rattle.rules.specs.Refusal.{NotIndexed, UnknownTable}
 use Rattle.rules.specs.State.{Name, Row, State, table_named, of_table, cell_at}
 use Rattle.rules.specs.Journal.{Journal, Books}
 use Rattle.rules.specs.Layout.{parse}
@@ -30,10 +30,10 @@ use Rattle.walks.proofs.KeysCounted.{left_behind, all_left}
 use Rattle.mapping.specs.Got.{is_got, got_or}
 use Rattle.operations.specs.Told.{outcome_of}
 use Rattle.requests.specs.Lines.{row_line, row_lines, row_most, answer_line}
-use Rattle.requests.proofs.Copied.{front-is, front-told, front-copied, front-back}
+use Rattle.requests.proofs.Copied.{front-is, front-told, front-copied}
 use Rattle.requests.proofs.Fitting.{lines-all, lines_stay, lines_next}
 use Rattle.requests.proofs.Fronts.{front_length}
-use Rattle.requests.specs.Places.{beside, key_line, lines_from, NextLine, ended, wrote, text_from, lines_to, Wrote}
+use Rattle.requests.specs.Places.{beside, key_line, lines_from, text_from, lines_to, Wrote}
 
 -- ---- at the start all of them are left
 
@@ -150,23 +150,6 @@ unfolding outcome_of
 lines-counted p R b (got q end) = step-counted p R b q
 lines-counted p R b (broken x) = omega arith
 
--- ---- the next one, or none
-
-pub record NextIs (ls rest : List (List Value)) (before after : List ℕ) (count : ℕ) : Type 0 where
-  pub values : List Value
-  pub left : ls ≡ values ∷ rest
-  pub front : Front (row_line values) before after count
-
-module _ (ls rest : List (List Value)) (before after : List ℕ) (n : ℕ) where
-  pub next-none : NextLine ls rest before after n → n ≡ 0 → ls ≡ []
-  unfolding row_line
-  next-none (ended e c b) z = e
-  next-none (wrote l e f) z = absurd (omega (arith, f.count))
-
-  pub next-some : NextLine ls rest before after n → (n ≡ 0 → ⊥) → NextIs ls rest before after n
-  next-some (ended e c b) z = absurd (z c)
-  next-some (wrote l e f) z = record { values = l; left = e; front = f }
-
 -- ---- the lines written so far, and those that are left
 
 pub record Going (o : Outcome) (i : ℕ) (ls : List (List Value)) (before now : List ℕ) (written lines : ℕ) : Type 0 where
@@ -193,10 +176,6 @@ module _ (o : Outcome) (i : ℕ) (before : List ℕ) where
       }
 
   module _ (ls : List (List Value)) (now : List ℕ) (written lines : ℕ) (g : Going o i ls before now written lines) where
-    pub going-ends : ls ≡ [] → Going o i [] before now written lines
-    going-ends e =
-        record { rest = sym e ∙ g.rest; few = g.few; count = g.count; fits = g.fits; long = g.long; front = g.front; text = g.text }
-
     module _ (l : List Value) (rest : List (List Value)) (e : ls ≡ l ∷ rest) where
       next : rest ≡ drop (lines + 1) o.lines
       next = ap (drop 1) (sym e ∙ g.rest) ∙ drop-drop 1 lines o.lines
@@ -355,62 +334,41 @@ module _ (o : Outcome) (i : ℕ) (before : List ℕ) where
             room = λ d. absurd (true≢false d);
           }
 
--- ---- a turn of the loop, whose flag m is still on
+-- ---- a turn of the loop: the next line is written into a buffer of its own, and then behind what is written if it is wanted
 
-module _ (o : Outcome) (i : ℕ) (before : List ℕ) (m : Bool) (on : m ≡ true) (old new : List (List Value)) (now : List ℕ) (written lines : ℕ) (g : Going o i (cond m old []) before now written lines)
-    (part last : List ℕ) (n : ℕ) (x : NextLine old new part last n) where
-  old-left : Going o i old before now written lines
-  old-left = subst (λ (b : Bool). Going o i (cond b old []) before now written lines) on g
+module _ (o : Outcome) (i : ℕ) (before : List ℕ) (old new : List (List Value)) (now : List ℕ) (written lines : ℕ) (g : Going o i old before now written lines)
+    (values : List Value) (e : old ≡ values ∷ new) (part last : List ℕ) (n : ℕ) (f : Front (row_line values) part last n) where
+  pub turn_more : lines < length o.lines
+  turn_more = one_left o i before old now written lines g values new e
 
-  new-left : (z : List ℕ) (w k : ℕ) → Going o i new before z w k → Going o i (cond m new []) before z w k
-  new-left z w k h = subst (λ (b : Bool). Going o i (cond b new []) before z w k) (sym on) h
+  pub turn-less : length new < length old
+  turn-less = rw e (omega arith)
 
-  pub turn-ends : n ≡ 0 → Going o i [] before now written lines
-  turn-ends z = going-ends o i before old now written lines old-left (next-none old new part last n x z)
+  pub turn-stays : i ≤ lines → length now - written < n → n ≤ row_most → Wrote o i before now (record { written = written; lines = lines; done = false })
+  turn-stays h l k = line_stays o i before old now written lines g values new e h n f.count l k
 
-  pub ended-less : 0 < length (cond m old []) + cond m 1 0
-  ended-less = rw on (omega arith)
+  -- z stands behind the turn, and w bytes of it are written
+  module _ (z : List ℕ) (w : ℕ) where
+    pub turn-skips : z ≡ now → w ≡ written → lines < i → Going o i new before z w (lines + 1)
+    turn-skips ez ew h = rw (ez, ew) (going-skips o i before old now written lines g values new e h)
 
-  module _ (some : n ≡ 0 → ⊥) where
-    its : NextIs old new part last n
-    its = next-some old new part last n x some
-
-    pub turn_more : lines < length o.lines
-    turn_more = one_left o i before old now written lines old-left its.values new its.left
-
-    pub turn-less : length (cond m new []) + cond m 1 0 < length (cond m old []) + cond m 1 0
-    turn-less = rw (on, its.left) (omega arith)
-
-    pub turn-skips : (z : List ℕ) (w : ℕ) → z ≡ now → w ≡ written → lines < i → Going o i (cond m new []) before z w (lines + 1)
-    turn-skips z w ez ew h =
-        rw (ez, ew) (new-left now written (lines + 1) (going-skips o i before old now written lines old-left its.values new its.left h))
-
-    pub turn-stays : i ≤ lines → length now - written < n → n ≤ row_most → Wrote o i before now (record { written = written; lines = lines; done = false })
-    turn-stays h l k = line_stays o i before old now written lines old-left its.values new its.left h n its.front.count l k
-
-    pub turn-writes : (z q behind : List ℕ) (w : ℕ) → z ≡ put_mid written (written + n - written) now q → w ≡ written + n → q ≡ take (n - 0) (last ++ behind) → i ≤ lines → n ≤ length now - written
-        → Going o i (cond m new []) before z w (lines + 1)
-    turn-writes z q behind w ez ew eq h l =
-        let f : q ≡ row_line its.values = eq ∙ front-back (row_line its.values) part last behind n its.front in
-        let c : length q ≡ n = ap length f ∙ sym its.front.count in
+    pub turn-writes : (q : List ℕ) → z ≡ put_mid written (written + n - written) now q → w ≡ written + n → q ≡ take n last → i ≤ lines → n ≤ length now - written
+        → Going o i new before z w (lines + 1)
+    turn-writes q ez ew eq h l =
+        let x : q ≡ row_line values = eq ∙ front-is (row_line values) part last n f in
         let r : written + n ≤ length now = omega (arith, g.fits) in
-        rw (ez, ew)
-        (new-left (put_mid written (written + n - written) now q) (written + n) (lines + 1)
-        (going-writes o i before old now written lines old-left its.values new its.left q n f c r h))
+        rw (ez, ew) (going-writes o i before old now written lines g values new e q n x (ap length x ∙ sym f.count) r h)
 
--- ---- behind the loop, whose flag is off
+-- ---- behind the loop
 
-module _ (o : Outcome) (i : ℕ) (before : List ℕ) (m : Bool) (off : m ≡ false) (old : List (List Value)) (now : List ℕ) (written lines : ℕ) (g : Going o i (cond m old []) before now written lines)
+module _ (o : Outcome) (i : ℕ) (before : List ℕ) (old : List (List Value)) (now : List ℕ) (written lines : ℕ) (g : Going o i old before now written lines) (none : old ≡ [])
     (part last : List ℕ) (n : ℕ) (x : Front (answer_line o.reply) part last n) where
-  none_left : cond m old [] ≡ []
-  none_left = rw off
-
   pub end_stays : length now - written < n → n ≤ row_most → Wrote o i before now (record { written = written; lines = lines; done = false })
-  end_stays l k = answer-stays o i before (cond m old []) now written lines g none_left n x.count l k
+  end_stays l k = answer-stays o i before old now written lines g none n x.count l k
 
-  pub end-writes : (q behind : List ℕ) → q ≡ take (n - 0) (last ++ behind) → n ≤ length now - written
+  pub end-writes : (q : List ℕ) → q ≡ take n last → n ≤ length now - written
       → Wrote o i before (put_mid written (written + n - written) now q) (record { written = written + n; lines = lines; done = true })
-  end-writes q behind eq l =
-      let f : q ≡ answer_line o.reply = eq ∙ front-back (answer_line o.reply) part last behind n x in
+  end-writes q eq l =
+      let f : q ≡ answer_line o.reply = eq ∙ front-is (answer_line o.reply) part last n x in
       let r : written + n ≤ length now = omega (arith, g.fits) in
-      all-wrote o i before (cond m old []) now written lines g none_left q n f (ap length f ∙ sym x.count) r
+      all-wrote o i before old now written lines g none q n f (ap length f ∙ sym x.count) r

@@ -8,16 +8,17 @@ use mathlib.Core.Bool.{Bool, true, false, cond, ◌&&◌}
 use mathlib.Core.List.{List, [], ◌∷◌, map, map-map}
 use mathlib.Core.Option
 use mathlib.Core.Option.{Option, none, some, none-ne-some, some-injective}
-use lib.Dec.{eqb, leb, ltb}
+use lib.Dec.{eqb, ltb}
 use lib.ListN.{length, get_or, drop, length-drop, drop_of_length-le}
 use lib.Seq.{drop-drop}
-use borrow.Author.Tests.{eqb-true, leb-true, leb-false}
+use borrow.Author.Tests.{eqb-true}
 use Rattle.values.specs.Basic.{is_lt, find, keep_if, keep, nth, maybe}
 use Rattle.values.specs.Cell.{name_width}
 use Rattle.areas.specs.Counted.{count_at}
-use Rattle.values.specs.Meaning.{text_bytes, held, meaning, ProperCell}
-use Rattle.forms.specs.Print.{Front}
-use Rattle.forms.specs.Read.{Read, got, broken, name_at}
+use Rattle.values.specs.Meaning.{text_bytes, Packed, held, meaning, ProperCell}
+use Rattle.std.specs.Result.{result_ok}
+use Rattle.std.specs.declared.result.Result.TheVariants.{Ok, Err}
+use Rattle.forms.specs.Read.{Read, got, broken, name_at, value_at, ReadName, NameRead}
 use Rattle.areas.specs.Sorted.{In, Sorted}
 use Rattle.values.specs.Value.{Value, null, text, before, among, cmp_value}
 use Rattle.values.specs.declared.value.Text.{Text}
@@ -34,8 +35,17 @@ use Rattle.rules.proofs.Lists.{keep-nothing, keep-ext, map-sorted, nth_in}
 use Rattle.rules.proofs.Room.{few-columns}
 use Rattle.rules.proofs.Shown.{cmp_line, lookup-rising}
 use Rattle.rules.proofs.Tests.{and_left, name-is}
-use Rattle.laid.specs.Catalog.{place_of, TableName}
-use Rattle.checks.specs.Keys.{values_from}
+use Rattle.laid.specs.Catalog.{place_of, found_at, TableName}
+use Rattle.std.specs.Iterator.{Yields}
+use Rattle.std.specs.Option.{IsSome}
+use Rattle.std.specs.Iterator.Adapters.{enumerate_steps, skip_steps}
+use Rattle.std.specs.declared.iter.Enumerate.{Enumerate}
+use Rattle.std.specs.declared.iter.Skip.{Skip}
+use Rattle.std.specs.declared.option.Option.{Option as Maybe}
+use Rattle.std.specs.declared.option.Option.TheVariants.{None, Some}
+use Rattle.values.specs.declared.value.Cell.{Cell}
+use Rattle.checks.specs.declared.keys.Values.{Values}
+use Rattle.checks.specs.Keys.{on_read, values_from, values_of, FirstValue}
 use Rattle.walks.specs.Looked.{keys_with, next_with}
 use Rattle.laid.specs.Row.{row_in, table_in}
 use Rattle.laid.specs.Store.{LaidStore}
@@ -49,29 +59,8 @@ use Rattle.requests.specs.declared.lines.Step.{Step}
 use Rattle.mapping.specs.Got.{is_got, got_or}
 use Rattle.records.specs.Reading.{and_then, byte_at, byte_from}
 use Rattle.records.specs.Record.{values_at, create_at, drop_at, insert_at, update_at, keys_at, lookup_at, scan_at, operands_at, request_of}
-use Rattle.requests.specs.Lines.{row_line, row_most}
-use Rattle.requests.specs.Places.{cells_in, name_line, key_line, lines_from, ended, wrote, Lined}
+use Rattle.requests.specs.Places.{cells_in, name_line, key_line, lines_from, Lined}
 use Rattle.mapping.proofs.ValuesFrom.{was-got, got-gives, unbroken, parted, byte-there, from-there, values-there, values-inside}
-
--- ---- a line that is the first of those left, or none
-
-module _ (s : State) (q : Request) (i : ℕ) (k : Value) (b a : List ℕ) (r : Step) (h : ProperCell r.key) where
-  pub lined : (l : List Value) → lines_from s q i k ≡ l ∷ lines_from s q r.at (held r.key) → Front (row_line l) b a r.count → r.count ≤ row_most → Lined s q i k b a r
-  lined l e f m = record { line = wrote l e f; proper = h; short = m }
-
-  pub none-lined : lines_from s q i k ≡ [] → r.count ≡ 0 → a ≡ b → Lined s q i k b a r
-  none-lined e c f = record { line = ended e c f; proper = h; short = omega arith }
-
--- of get, where the buffer was not written to before
-module _ (s : State) (n : Name) (ks : List Value) (i : ℕ) (k : Value) (b a : List ℕ) (r : Step) (h : ProperCell r.key) (b₀ : List ℕ) (eb : b₀ ≡ b) where
-  pub got-lined : (l : List Value) → found s.rows n (drop i ks) ≡ l ∷ found s.rows n (drop r.at ks) → Front (row_line l) b₀ a r.count → r.count ≤ row_most
-      → Lined s (Get n ks) i k b a r
-  unfolding lines_from
-  got-lined l e f m = lined s (Get n ks) i k b a r h l e (rw eb at f) m
-
-  pub got-none : found s.rows n (drop i ks) ≡ [] → r.count ≡ 0 → a ≡ b₀ → Lined s (Get n ks) i k b a r
-  unfolding lines_from
-  got-none e c f = none-lined s (Get n ks) i k b a r h e c (f ∙ eb)
 
 -- ---- the table of a stored row
 
@@ -88,9 +77,10 @@ module _ (p : Profile) (R : ℕ) (s : List ℕ) (b : LaidStore p R s) (i : ℕ) 
   named : table_named tables n ≡ some own
   named = ap (table_named tables) (sym en) ∙ ((held-state p R s b).rows row (row-in p R s b i h)).named
 
-  -- it is stored
-  pub table-stored : none ≡ place_of (is_named n) tables → ⊥
-  table-stored e = none-ne-some own (sym (place-missing (is_named n) tables (sym e)) ∙ named)
+  -- it is found
+  pub table-found : (r : Maybe ℕ) → found_at r ≡ place_of (is_named n) tables → IsSome r
+  table-found None e = absurd (none-ne-some own (sym (place-missing (is_named n) tables (sym e)) ∙ named))
+  table-found (Some t) e = refl
 
   module _ (t : ℕ) (e : some t ≡ place_of (is_named n) tables) where
     pub table-inside : t < length tables
@@ -110,56 +100,113 @@ module _ (p : Profile) (R : ℕ) (s : List ℕ) (b : LaidStore p R s) (i : ℕ) 
       pub cells-few : m ≤ p.columns
       cells-few = omega (arith, counted, few-columns p R (parse p R s) (held-state p R s b) (table_in p R s t) (nth_in tables t (table_in p R s t) (table-there p R s t table-inside)))
 
--- ---- get: the keys `all`, k of them passed over, `rest` behind them
+-- ---- get: the keys `all`, numbered, `passed` of them passed over
+
+abbrev pub Keys : Type 0
+Keys = Skip (Enumerate Values)
+
+-- what is left of them
+abbrev keys_left : Keys → List Value
+keys_left it = drop it.n (values_of it.iter.iter)
+
+-- a call of `next`
+abbrev Calls : Keys → Maybe (ℕ × Cell) → Keys → Type 0
+Calls = skip_steps (enumerate_steps FirstValue)
+
+-- no more values are left than are counted
+few-values : (s : List ℕ) (n at : ℕ) → length (values_from s n at) ≤ n
+unfolding values_from on_read
+few-values s zero at = omega arith
+few-values s (suc n) at = go (value_at s at) (few-values s n)
+  where
+    go : (r : Read Value) → ((b : ℕ) → length (values_from s n b) ≤ n) → length (on_read r [] (λ v b. v ∷ values_from s n b)) ≤ suc n
+    go (got v b) h = omega (arith, h b)
+    go (broken x) h = omega arith
+
+-- the iterator as the loop begins
+pub record Numbered (v : Values) (passed : ℕ) (it : Keys) : Type 0 where
+  pub source : it.iter.iter ≡ v
+  pub count : it.iter.count ≡ 0
+  pub skips : it.n ≡ passed
+
+pub keys-counted : (v : Values) (passed : ℕ) (it : Keys) → Numbered v passed it → it.iter.count + length (values_of it.iter.iter) ≤ v.count
+unfolding values_of
+keys-counted v passed it h = rw (h.count, h.source) (omega (arith, few-values v.bytes.now v.count v.at))
 
 drop-tail : {A : Type 0} (k : ℕ) (l : List A) (v : A) (r : List A) → drop k l ≡ v ∷ r → drop (k + 1) l ≡ r
 drop-tail k l v r e = let f = drop-drop 1 k l in sym f ∙ ap (drop 1) e
 
+drop_more : {A : Type 0} (k j : ℕ) (xs : List A) → k ≤ j → drop k xs ≡ [] → drop j xs ≡ []
+drop_more k j xs l e = let d : j ≡ k + (j - k) = omega arith in ap (λ (i : ℕ). drop i xs) d ∙ sym (drop-drop (j - k) k xs) ∙ ap (drop (j - k)) e ∙ drop_of_length-le [] {i = j - k} zero-le
+
+passed-over : (e : Enumerate Values) (xs : List (ℕ × Cell)) (t : Enumerate Values) → Yields (enumerate_steps FirstValue) e xs t
+    → (t.count ≡ e.count + length xs) × (values_of t.iter ≡ drop (length xs) (values_of e.iter))
+passed-over e [] t h = (rw h (omega arith), ap (λ (x : Enumerate Values). values_of x.iter) (sym h))
+passed-over e (x ∷ xs) t h =
+    let r = passed-over h.0 xs t h.2 in
+    let k : 1 + length xs ≡ suc (length xs) = omega arith in (
+      omega (arith, r.0, h.1.2),
+      r.1 ∙ ap (drop (length xs)) (sym (ap (drop 1) h.1.0.0)) ∙ drop-drop (length xs) 1 (values_of e.iter) ∙ ap (λ (j : ℕ). drop j (values_of e.iter)) k,
+    )
+
 module _ (rs : List Row) (n : Name) (all : List Value) (passed : ℕ) where
-  pub record Passing (k : ℕ) (rest : List Value) : Type 0 where
-    pub behind : drop k all ≡ rest
-    pub same : passed ≤ k → found rs n (drop passed all) ≡ found rs n (drop k all)
+  pub record Passing (it : Keys) : Type 0 where
+    pub behind : drop it.iter.count all ≡ values_of it.iter.iter
+    pub same : found rs n (drop passed all) ≡ found rs n (keys_left it)
 
-  pub passing-read : (k : ℕ) (rest more : List Value) → rest ≡ more → Passing k rest → Passing k more
-  passing-read k rest more e h = record { behind = h.behind ∙ e; same = h.same }
+  pub passing-start : (v : Values) (it : Keys) → Numbered v passed it → all ≡ values_of v → Passing it
+  passing-start v it h e = record {
+    behind = ap (λ (j : ℕ). drop j all) h.count ∙ e ∙ ap values_of (sym h.source);
+    same = ap (λ (x : List Value). found rs n (drop passed x)) (e ∙ ap values_of (sym h.source)) ∙ ap (λ (j : ℕ). found rs n (drop j (values_of it.iter.iter))) (sym h.skips);
+  }
 
-  pub passing-start : Passing 0 all
-  passing-start = record { behind = refl; same = λ l. let e : passed ≡ 0 = omega arith in ap (λ (j : ℕ). found rs n (drop j all)) e }
-
-  module _ (k : ℕ) (v : Value) (rest : List Value) (h : Passing k (v ∷ rest)) where
-    at_first : passed < k + 1 → found rs n (drop passed all) ≡ found rs n (v ∷ rest)
-    at_first l = h.same (omega arith) ∙ ap (found rs n) h.behind
-
-    on-rest : found rs n rest ≡ found rs n (drop (k + 1) all)
-    on-rest = ap (found rs n) (sym (drop-tail k all v rest h.behind))
-
-    pub passing-on : (passed < k + 1 → ⊥) → Passing (k + 1) rest
-    passing-on l = record { behind = drop-tail k all v rest h.behind; same = λ m. let e : passed ≡ k + 1 = omega arith in ap (λ (j : ℕ). found rs n (drop j all)) e }
-
-    -- a key with no row
-    pub passing-missing : passed < k + 1 → none ≡ place_of (is_row n v) rs → Passing (k + 1) rest
-    unfolding found maybe
-    passing-missing l e =
-        let f : found rs n (v ∷ rest) ≡ found rs n rest = rw (place-missing (is_row n v) rs (sym e)) in
-        record { behind = drop-tail k all v rest h.behind; same = λ m. at_first l ∙ f ∙ on-rest }
-
-    -- a key with a row
-    pub passing-found : passed < k + 1 → (r : Row) → row_with rs n v ≡ some r → found rs n (drop passed all) ≡ r.cells ∷ found rs n (drop (k + 1) all)
-    unfolding found maybe
-    passing-found l r e =
-        let f : found rs n (v ∷ rest) ≡ r.cells ∷ found rs n rest = rw e in
-        at_first l ∙ f ∙ ap (λ (x : List (List Value)). r.cells ∷ x) on-rest
-
-  drop_more : (k j : ℕ) → k ≤ j → drop k all ≡ [] → drop j all ≡ []
-  drop_more k j l e = let d : j ≡ k + (j - k) = omega arith in ap (λ (i : ℕ). drop i all) d ∙ sym (drop-drop (j - k) k all) ∙ ap (drop (j - k)) e ∙ drop_of_length-le [] {i = j - k} zero-le
-
-  pub passing-end : (k : ℕ) → Passing k [] → found rs n (drop passed all) ≡ []
+  -- no key is left
+  pub passing-end : (it next : Keys) → Passing it → Calls it None next → found rs n (drop passed all) ≡ []
   unfolding found
-  passing-end k h = go (leb passed k) refl
-    where
-      go : (b : Bool) → leb passed k ≡ b → found rs n (drop passed all) ≡ []
-      go true e = h.same (leb-true passed k e) ∙ ap (found rs n) h.behind
-      go false e = ap (found rs n) (drop_more k passed (omega (arith, leb-false passed k e)) h.behind)
+  passing-end it next h s =
+      let r = passed-over it.iter s.1.0 s.1.1.0 s.1.1.1 in
+      h.same ∙ ap (found rs n) (drop_more (length s.1.0) it.n (values_of it.iter.iter) s.1.2 (sym r.1 ∙ s.1.1.2.0.0))
+
+  -- the next key
+  module _ (it next : Keys) (h : Passing it) (k : ℕ) (c : Cell) (s : Calls it (Some (k, c)) next) where
+    run : (next.iter.count ≡ k + 1) × (drop k all ≡ held c ∷ values_of next.iter.iter) × (keys_left it ≡ held c ∷ values_of next.iter.iter) × ProperCell c
+    run =
+        let xs = s.1.0 in
+        let r = passed-over it.iter xs s.1.1.0 s.1.1.1 in
+        let last = s.1.1.2 in
+        let number : it.iter.count + length xs ≡ k = omega (arith, r.0, last.1) in
+        let now : drop (length xs) (values_of it.iter.iter) ≡ held c ∷ values_of next.iter.iter = sym r.1 ∙ last.0.0 in (
+          omega (arith, last.1, last.2),
+          ap (λ (j : ℕ). drop j all) (sym number) ∙ sym (drop-drop (length xs) it.iter.count all) ∙ ap (drop (length xs)) h.behind ∙ now,
+          ap (λ (j : ℕ). drop j (values_of it.iter.iter)) (sym s.1.2) ∙ now,
+          last.0.1,
+        )
+
+    pub key-proper : ProperCell c
+    key-proper = run.3
+
+    left : found rs n (drop passed all) ≡ found rs n (held c ∷ values_of next.iter.iter)
+    left = h.same ∙ ap (found rs n) run.2
+
+    behind-it : drop (k + 1) all ≡ values_of next.iter.iter
+    behind-it = drop-tail k all (held c) (values_of next.iter.iter) run.1
+
+    -- with no row
+    pub passing-missing : none ≡ place_of (is_row n (held c)) rs → Passing next
+    unfolding found maybe
+    passing-missing e =
+        let f : found rs n (held c ∷ values_of next.iter.iter) ≡ found rs n (values_of next.iter.iter) = rw (place-missing (is_row n (held c)) rs (sym e)) in
+        record {
+          behind = ap (λ (j : ℕ). drop j all) run.0 ∙ behind-it;
+          same = left ∙ f ∙ ap (λ (j : ℕ). found rs n (drop j (values_of next.iter.iter))) (sym s.0);
+        }
+
+    -- with a row
+    pub passing-found : (r : Row) → row_with rs n (held c) ≡ some r → found rs n (drop passed all) ≡ r.cells ∷ found rs n (drop (k + 1) all)
+    unfolding found maybe
+    passing-found r e =
+        let f : found rs n (held c ∷ values_of next.iter.iter) ≡ r.cells ∷ found rs n (values_of next.iter.iter) = rw e in
+        left ∙ f ∙ ap (λ (x : List Value). r.cells ∷ found rs n x) (sym behind-it)
 
 -- the row of a key, by its place
 module _ (p : Profile) (R : ℕ) (s : List ℕ) (b : LaidStore p R s) (n : Name) (v : Value) (i : ℕ) (e : some i ≡ place_of (is_row n v) (parse p R s).rows) where
@@ -295,18 +342,17 @@ module _ (p : Profile) (R : ℕ) (s : List ℕ) (b : LaidStore p R s) (n : Name)
     unfolding lines_from
     accepted g j w = rw (← lookup-counted p R s n t e column x ex vs g (length keys) refl)
 
-    module _ (g : x ≡ true) (y : Bool) (w : Value) (ey : cond y (some w) none ≡ next_with state.rows n column vs k) where
-      found-is : (z : Bool) → y ≡ z → find (before k) keys ≡ cond z (some w) none
+    module _ (g : x ≡ true) where
+      pub lookup-ended : none ≡ next_with state.rows n column vs k → lines_from state (Lookup n column vs) i k ≡ []
       unfolding next_with
-      found-is z h = sym (ap (λ (u : Bool). cond u (some w) none) (sym h) ∙ ey)
+      lookup-ended h = accepted g i k ∙ ap (map key_line) (kept-none k keys (sym h))
 
-      pub lookup-ended : y ≡ false → lines_from state (Lookup n column vs) i k ≡ []
-      lookup-ended h = accepted g i k ∙ ap (map key_line) (kept-none k keys (found-is false h))
-
-      pub lookup_first : y ≡ true → (j : ℕ) → lines_from state (Lookup n column vs) i k ≡ (w ∷ []) ∷ lines_from state (Lookup n column vs) j w
-      lookup_first h j =
+      pub lookup_first : (w : Value) → some w ≡ next_with state.rows n column vs k → (j : ℕ)
+          → lines_from state (Lookup n column vs) i k ≡ (w ∷ []) ∷ lines_from state (Lookup n column vs) j w
+      unfolding next_with
+      lookup_first w h j =
           accepted g i k
-          ∙ ap (map key_line) (kept_next k w keys (keys-rising state.rows (held-state p R s b).rows-sorted n column vs) (found-is true h))
+          ∙ ap (map key_line) (kept_next k w keys (keys-rising state.rows (held-state p R s b).rows-sorted n column vs) (sym h))
           ∙ ap (λ (l : List (List Value)). (w ∷ []) ∷ l) (sym (accepted g j w))
 
 -- ---- list: the name of the table at a place
@@ -329,6 +375,22 @@ module _ (p : Profile) (R : ℕ) (s : List ℕ) (count : ℕ) (ec : count ≡ co
         ap (map name_line) (drop_nth (parse p R s).tables i T there)
         ∙ ap (λ (l : List ℕ). (text l ∷ []) ∷ map name_line (drop (suc i) (parse p R s).tables)) (sym m)
         ∙ ap (λ (j : ℕ). (text (text_bytes t) ∷ []) ∷ map name_line (drop j (parse p R s).tables)) (sym (add-one i))
+
+-- ---- the name in a record
+
+pub record NameIs (s : List ℕ) (at : ℕ) (t : Text) (n : ℕ) : Type 0 where
+  pub is : name_at s at ≡ got (text_bytes t) n
+  pub packed : Packed t
+
+pub name-read : (s : List ℕ) (at : ℕ) (r : ReadName) (o : Maybe (Text × ℕ)) (t : Text) (n : ℕ) → NameRead s at r → o ≡ result_ok r → o ≡ Some (t, n) → NameIs s at t n
+name-read s at (Ok x) o t n h e f =
+    let q : x ≡ (t, n) = cc in
+    record { is = sym h.is ∙ ap (λ (y : Text × ℕ). got (text_bytes y.0) y.1) q; packed = subst (λ (y : Text × ℕ). Packed y.0) q h.proper }
+name-read s at (Err x) o t n h e f = absurd cc
+
+pub name-missing : (s : List ℕ) (at : ℕ) (r : ReadName) (o : Maybe (Text × ℕ)) → NameRead s at r → o ≡ result_ok r → o ≡ None → (x : ℕ) × (name_at s at ≡ broken x)
+name-missing s at (Ok x) o h e f = absurd cc
+name-missing s at (Err x) o h e f = (x.at, sym h.is)
 
 -- ---- the request that a record says, by its operation
 
@@ -519,20 +581,32 @@ module _ (rec : List ℕ) (p : Profile) (h : is_got (request_of rec p) ≡ true)
     pub lookup-inside : o ≡ 7 → n + 1 < length rec
     lookup-inside e = (says-lookup rec p (saying rec p h).request (saying rec p h).end t n hn (operated 7 e)).1
 
-  module _ (s : State) (i : ℕ) (k : Value) (b a : List ℕ) (r : Step) where
-    moved : (q : Request) → (saying rec p h).request ≡ q → Lined s q i k b a r → Lined s said i k b a r
-    moved q e l = subst (λ (x : Request). Lined s x i k b a r) (sym ((saying rec p h).is ∙ e)) l
+  module _ (s : State) (i : ℕ) (k : Value) (b a : List ℕ) (r : Maybe Step) where
+    moved : (q : Request) → (saying rec p h).request ≡ q → (j : ℕ) (w : Value) → lines_from s q j w ≡ lines_from s q i k → Lined s q j w b a r → Lined s said i k b a r
+    moved q e j w f l = go r l
+      where
+        same : (j : ℕ) (w : Value) → lines_from s said j w ≡ lines_from s q j w
+        same j w = ap (λ (x : Request). lines_from s x j w) ((saying rec p h).is ∙ e)
+
+        go : (r : Maybe Step) → Lined s q j w b a r → Lined s said i k b a r
+        go None l = (same i k ∙ sym f ∙ l.0, l.1)
+        go (Some x) l = record {
+          values = l.values;
+          first = same i k ∙ sym f ∙ l.first ∙ ap (λ (ls : List (List Value)). l.values ∷ ls) (sym (same x.place.at (held x.place.key)));
+          front = l.front;
+          short = l.short;
+          proper = l.proper;
+        }
 
     pub next-named : o ≡ 9 → Lined s Names i null b a r → Lined s said i k b a r
     unfolding lines_from
-    next-named e l = moved Names (says-names rec p _ _ (operated 9 e)) (record { line = l.line; proper = l.proper; short = l.short })
+    next-named e l = moved Names (says-names rec p _ _ (operated 9 e)) i null refl l
 
     module _ (t : List ℕ) (n : ℕ) (hn : name_at rec 2 ≡ got t n) where
       pub next-got : o ≡ 6 → (m : ℕ) → m ≡ get_or rec n 0 → Lined s (Get t (values_from rec m (n + 1))) i null b a r → Lined s said i k b a r
       unfolding lines_from
       next-got e m em l =
-          moved (Get t (values_from rec m (n + 1))) ((says-get rec p _ _ t n hn (operated 6 e)).0 ∙ ap (λ (j : ℕ). Get t (values_from rec j (n + 1))) (sym em))
-          (record { line = l.line; proper = l.proper; short = l.short })
+          moved (Get t (values_from rec m (n + 1))) ((says-get rec p _ _ t n hn (operated 6 e)).0 ∙ ap (λ (j : ℕ). Get t (values_from rec j (n + 1))) (sym em)) i null refl l
 
       pub next-looked : o ≡ 7 → (c : ℕ) → c ≡ get_or rec n 0 → (m : ℕ) → m ≡ get_or rec (n + 1) 0 → Lined s (Lookup t c (values_from rec m (n + 2))) 0 k b a r → Lined s said i k b a r
       unfolding lines_from
@@ -541,8 +615,8 @@ module _ (rec : List ℕ) (p : Profile) (h : is_got (request_of rec p) ≡ true)
           ((says-lookup rec p _ _ t n hn (operated 7 e)).0
           ∙ ap (λ (j : ℕ). Lookup t j (values_from rec (get_or rec (n + 1) 0) (n + 2))) (sym ec)
           ∙ ap (λ (j : ℕ). Lookup t c (values_from rec j (n + 2))) (sym em))
-          (record { line = l.line; proper = l.proper; short = l.short })
+          0 k refl l
 
       pub next-scanned : o ≡ 8 → Lined s (Scan t) i null b a r → Lined s said i k b a r
       unfolding lines_from
-      next-scanned e l = moved (Scan t) (says-scan rec p _ _ t n hn (operated 8 e)) (record { line = l.line; proper = l.proper; short = l.short })
+      next-scanned e l = moved (Scan t) (says-scan rec p _ _ t n hn (operated 8 e)) i null refl l

@@ -9,7 +9,7 @@ use lib.Dec.{leb}
 use lib.ListN.{length, take, drop, length-append}
 use lib.Seq.{take_at, length-take-le}
 use Rattle.rules.specs.declared.profile.Profile.{Profile}
-use Rattle.rules.specs.declared.answer.Refusal.TheVariants.{StoreUnsound}
+use Rattle.rules.specs.Refusal.{StoreUnsound}
 use Rattle.rules.specs.Journal.{Books}
 use Rattle.rules.specs.Layout.{places_of}
 use Rattle.rules.specs.Request.{no}

@@ -4,7 +4,8 @@ use mathlib.Core.Path.{◌≡◌, refl, sym, ap, ◌∙◌, subst}
 use mathlib.Core.List.{List, [], ◌∷◌, ◌++◌, append-nil, append_assoc}
 use native.Mathlib.Omega.{arith}
 use native.Mathlib.Numerals.{add-one}
-use lib.ListN.{length, take, drop, set, length-set, drop_of_length-le}
+use lib.ListN.{length, take, drop, set, length-drop, drop_of_length-le}
+use lib.Seq.{drop-cons}
 use borrow.Rule.Slice.PartMut.{put_mid}
 use Rattle.values.specs.Value.{Value}
 use Rattle.forms.specs.Print.{printed, print_most, Front}
@@ -13,20 +14,14 @@ use Rattle.rules.proofs.Cells.{cell-there}
 use Rattle.rules.proofs.Lists.{below-nth}
 use Rattle.laid.proofs.Finding.{drop_nth}
 use Rattle.requests.specs.Lines.{space, newline, spaced, row_line}
-use Rattle.requests.proofs.Fronts.{front_length, front-byte, front-on, front_self, front-spaced}
+use Rattle.requests.proofs.Fronts.{front_word, front_length, front-byte, front-on, front_self, front-spaced}
 
 -- the word `row`
 abbrev pub with_row : List ℕ → List ℕ
-with_row out = set (set (set out 0 114) 1 111) 2 119
+with_row out = 114 ∷ 111 ∷ 119 ∷ drop 3 out
 
-pub front-row : (out : List ℕ) → 3 ≤ length out → Front (114 ∷ 111 ∷ 119 ∷ []) out (with_row out) 3
-front-row [] l = absurd (omega arith)
-front-row (a ∷ []) l = absurd (omega arith)
-front-row (a ∷ b ∷ []) l = absurd (omega arith)
-front-row (a ∷ b ∷ c ∷ out) l = record { count = refl; bytes = refl }
-
-pub row-long : (out : List ℕ) → length (with_row out) ≡ length out
-row-long out = length-set (set (set out 0 114) 1 111) 2 119 ∙ length-set (set out 0 114) 1 111 ∙ length-set out 0 114
+pub row-long : (out : List ℕ) → 3 ≤ length out → length (with_row out) ≡ length out
+row-long out l = omega (arith, length-drop 3 out)
 
 -- behind the first three bytes stand the first j values, up to n
 pub record Begun (vs : List Value) (j : ℕ) (out b : List ℕ) (n : ℕ) : Type 0 where
@@ -66,18 +61,21 @@ module _ (vs : List Value) (j : ℕ) (out b : List ℕ) (n : ℕ) (g : Begun vs 
       }
 
 -- a line of one value
-pub begun-one : (v : Value) (out last : List ℕ) (r : ℕ) → 4 ≤ length out
-    → Front (printed v) (take (length (set (with_row out) 3 space) - 4) (drop 4 (set (with_row out) 3 space))) last r → r ≤ print_most
-    → Begun (v ∷ []) 1 (with_row out) (put_mid 4 (length (set (with_row out) 3 space) - 4) (set (with_row out) 3 space) last) (4 + r)
-begun-one v out last r l f m =
-    let e = row-long out in
-    begun-next (v ∷ []) 0 (with_row out) (with_row out) 3 (begun (v ∷ []) (with_row out) (omega (arith, e))) (omega (arith, e)) v last r (omega arith) refl f m
+pub begun-one : (v : Value) (w out last : List ℕ) (r : ℕ) → w ≡ 114 ∷ 111 ∷ 119 ∷ 32 ∷ [] → 4 ≤ length out
+    → Front (printed v) (take (length (w ++ drop 4 out) - 4) (drop 4 (w ++ drop 4 out))) last r → r ≤ print_most
+    → Begun (v ∷ []) 1 (with_row out) (put_mid 4 (length (w ++ drop 4 out) - 4) (w ++ drop 4 out) last) (4 + r)
+begun-one v w out last r e l f m =
+    let h : set (with_row out) 3 space ≡ w ++ drop 4 out = rw (e, drop-cons out 3 0) in
+    let k = row-long out (omega arith) in
+    subst (λ (x : List ℕ). Front (printed v) (take (length x - 4) (drop 4 x)) last r → Begun (v ∷ []) 1 (with_row out) (put_mid 4 (length x - 4) x last) (4 + r)) h
+    (λ g. begun-next (v ∷ []) 0 (with_row out) (with_row out) 3 (begun (v ∷ []) (with_row out) (omega (arith, k))) (omega (arith, k)) v last r (omega arith) refl g m) f
 
 -- the newline
-pub line_row : (vs : List Value) (j : ℕ) (out b : List ℕ) (n : ℕ) → Begun vs j (with_row out) b n → length vs ≤ j → 3 ≤ length out → n < length out
+pub line_row : (vs : List Value) (j : ℕ) (w out b : List ℕ) (n : ℕ) → w ≡ 114 ∷ 111 ∷ 119 ∷ [] → Begun vs j (w ++ drop 3 out) b n → length vs ≤ j → 3 ≤ length out → n < length out
     → Front (row_line vs) out (set b n newline) (n + 1)
 unfolding row_line spaced
-line_row vs j out b n g h k l =
-    let on = front-on (114 ∷ 111 ∷ 119 ∷ []) out (with_row out) 3 (front-row out k) k g.said b n g.front in
-    let e : g.said ++ (newline ∷ []) ≡ spaced vs = ap (λ (q : List Value). g.said ++ spaced q) (sym (drop_of_length-le vs h)) ∙ g.rest in
+line_row vs j w out b n ew h k m l =
+    let g : Begun vs j (with_row out) b n = rw ew at h in
+    let on = front-on (114 ∷ 111 ∷ 119 ∷ []) out (with_row out) 3 (front_word (114 ∷ 111 ∷ 119 ∷ []) out 3 refl) m g.said b n g.front in
+    let e : g.said ++ (newline ∷ []) ≡ spaced vs = ap (λ (q : List Value). g.said ++ spaced q) (sym (drop_of_length-le vs k)) ∙ g.rest in
     subst (λ (q : List ℕ). Front (114 ∷ 111 ∷ 119 ∷ q) out (set b n newline) (n + 1)) e (front-byte (114 ∷ 111 ∷ 119 ∷ g.said) out b n on (omega arith) newline l)

@@ -14,8 +14,8 @@ use Rattle.values.specs.Bytes.{Bytes}
 use Rattle.forms.specs.Read.{Read, got, broken}
 use Rattle.forms.specs.Print.{Front}
 use Rattle.rules.specs.declared.profile.Profile.{Profile}
-use Rattle.rules.specs.declared.answer.Answer.{Answer}
-use Rattle.rules.specs.declared.answer.Refusal.TheVariants.{RecordBroken}
+use Rattle.rules.specs.Request.{Answer}
+use Rattle.rules.specs.Refusal.{RecordBroken}
 use Rattle.rules.specs.Journal.{Books}
 use Rattle.rules.specs.Request.{Request, said, no}
 use Rattle.rules.specs.Readable.{readable}
@@ -31,7 +31,7 @@ use Rattle.requests.specs.declared.entry.Halt.TheVariants.{Full, Waiting, Stoppe
 use Rattle.requests.specs.declared.lines.Put.{Put}
 use Rattle.records.specs.Record.{request_of}
 use Rattle.records.specs.Frame.{framed}
-use Rattle.requests.specs.Lines.{row_most}
+use Rattle.requests.specs.Lines.{row_most, answer_line}
 use Rattle.operations.specs.Told.{outcome_of}
 use Rattle.requests.specs.Places.{text_from, lines_to, Wrote}
 use Rattle.requests.specs.Stream.{in_frame, records_in, in_bytes, bytes_of, text_of, books_after, Answered, books_then, records_left, Runs}
@@ -94,6 +94,12 @@ run-start p R input ended i s j out b =
           ap (reach p R ended (books_of p R s j) (records_in p input ended) i) (sym (sub-zero (length out)))
           ∙ sym (further-none (reach p R ended (books_of p R s j) (records_in p input ended) i (length out - 0)));
     }
+
+-- a run that went on by a record from where `before` bytes were taken
+pub record On (p : Profile) (R : ℕ) (input : List ℕ) (ended : Bool) (i : ℕ) (s₀ j₀ s j out done : List ℕ) (taken skip count written before : ℕ) : Type 0 where
+  pub running : Running p R input ended i s₀ j₀ s j out done taken count written 0
+  pub passed : Passed p input ended taken skip count
+  pub further : before < taken
 
 -- ---- the next record answered: it says q, those behind it begin at `to`; the buffers are s₁ and j₁, the output behind what was written is `last`
 
@@ -178,6 +184,12 @@ module _ {p : Profile} {R : ℕ} {input : List ℕ} {ended : Bool} {i : ℕ} {s�
 
   abbrev part : List ℕ
   part = take (length done - written) (drop written done)
+
+  part-long : length part ≡ length done - written
+  part-long = length-take-le (length done - written) (drop written done) (rw (length-drop written done) (omega arith))
+
+  pub part-room : row_most ≤ length done - written → row_most ≤ length part
+  part-room h = omega (arith, part-long)
 
   module _ (a : Answer) (ea : said a ≡ no RecordBroken 0) {last : List ℕ} {put : Put} (w : Only (said a) part last put)
       (same : length last ≡ length part) where
@@ -350,9 +362,6 @@ module _ {p : Profile} {R : ℕ} {input : List ℕ} {ended : Bool} {i : ℕ} {s�
     wrote : Wrote o lines part last put
     wrote = subst (λ (x : Outcome). Wrote x lines part last put) own t.answered.wrote
 
-    part-long : length part ≡ length done - written
-    part-long = length-take-le (length done - written) (drop written done) (rw (length-drop written done) (omega arith))
-
     in-out : written ≤ length out
     in-out = omega (arith, g.fits, g.long)
 
@@ -503,3 +512,34 @@ module _ {p : Profile} {R : ℕ} {input : List ℕ} {ended : Bool} {i : ℕ} {s�
                   ∙ sym
                   (reach-full p R ended then put.lines (length out - (written + wide)) left (omega (arith, stays-full, long-next))));
             }
+
+  -- ---- and the run goes on behind it
+
+  module _ {skip : ℕ} (t : Passed p input ended taken skip count) (begun : row_most ≤ length done - written) {f : Framed}
+      (e : f ≡ framed (take (length input - taken) (drop taken input)) ended) where
+    turned : {s₁ j₁ last : List ℕ} {to : ℕ} {put : Put} → Turn p R input ended s j s₁ j₁ done last count written lines to put → put.done ≡ true → taken < to → to ≤ length input
+        → {over : ℕ} → Passed p input ended to over (count + 1)
+        → On p R input ended i s₀ j₀ s₁ j₁ out (put_mid written (length done - written) done last) to over (count + 1) (written + put.written) taken
+    turned k d l m x = record { running = run_on k begun d l m; passed = x; further = l }
+
+    pub on-whole : {n : ℕ} (h : f ≡ Whole n) → Bytes input → {s₁ j₁ last : List ℕ} {put : Put}
+        → Answered p R (request_of (take (taken + n - (taken + 2)) (drop (taken + 2) input)) p) lines s j s₁ j₁ part last put → length s₁ ≡ length s → length j₁ ≡ length j
+        → put.done ≡ true
+        → On p R input ended i s₀ j₀ s₁ j₁ out (put_mid written (length done - written) done last) (taken + n) skip (count + 1) (written + put.written) taken
+    on-whole h b w k l d =
+        let m = whole-moves e h in
+        turned (whole-turn e h b w k l) d (omega (arith, m.0)) (omega (arith, m.0, m.1)) (pass-whole e h t)
+
+    -- the line of a broken record is written
+    module _ (a : Answer) (ea : said a ≡ no RecordBroken 0) {last : List ℕ} {wide : ℕ} (w : Front (answer_line (said a)) part last wide) (same : length last ≡ length part) where
+      abbrev Behind : ℕ → ℕ → Type 0
+      Behind to over = On p R input ended i s₀ j₀ s j out (put_mid written (length done - written) done last) to over (count + 1) (written + wide) taken
+
+      pub on-past : {n : ℕ} → f ≡ Skip n → length input - taken < n → Behind (length input) (n - (length input - taken))
+      on-past h l = let m = skip-moves e h in turned (past-turn e h a ea (w, refl, refl) same l) refl (omega (arith, m.1)) (omega arith) (pass-past e h t l)
+
+      pub on-skip : {n : ℕ} → f ≡ Skip n → n ≤ length input - taken → Behind (taken + n) skip
+      on-skip h l = let m = skip-moves e h in turned (skip-turn e h a ea (w, refl, refl) same) refl (omega (arith, m.0)) (omega (arith, m.1)) (pass-skip e h t l)
+
+      pub on-cut : f ≡ Cut → Behind (length input) skip
+      on-cut h = let m = cut-moves e h in turned (cut-turn e h a ea (w, refl, refl) same) refl (omega (arith, m)) (omega arith) (pass-cut e h t)

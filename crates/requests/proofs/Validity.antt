@@ -10,8 +10,8 @@ use Rattle.values.specs.Bytes.{Bytes}
 use Rattle.values.proofs.Packing.{drop-bytes}
 use Rattle.forms.specs.Read.{Read, got, broken}
 use Rattle.rules.specs.declared.profile.Profile.{Profile}
-use Rattle.rules.specs.declared.answer.Answer.{Answer}
-use Rattle.rules.specs.declared.answer.Refusal.TheVariants.{StoreUnsound}
+use Rattle.rules.specs.Request.{Answer}
+use Rattle.rules.specs.Refusal.{StoreUnsound}
 use Rattle.rules.specs.Profile.{Indexed}
 use Rattle.rules.specs.Journal.{Books}
 use Rattle.rules.specs.Layout.{places_of}

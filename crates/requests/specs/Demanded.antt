@@ -1,7 +1,7 @@
 -- Words in which the demands are said: the lines and the requests of records, and a record that is accepted. Assumes nothing.
 use Rattle.std.specs.Prelude.{ℕ, ◌≡◌, true, List, [], ◌∷◌, ◌++◌}
 use Rattle.forms.specs.Read.{Read, got, broken}
-use Rattle.rules.specs.declared.answer.Refusal.TheVariants.{RecordBroken}
+use Rattle.rules.specs.Refusal.{RecordBroken}
 use Rattle.rules.specs.Profile.{full}
 use Rattle.rules.specs.Journal.{Books}
 use Rattle.rules.specs.Request.{Request, no}

@@ -1,4 +1,6 @@
 -- A request's lines written one after the other: what is left of them from a place on, and as many at a time as fit. Assumes nothing.
+use Rattle.std.specs.declared.option.Option.{Option}
+use Rattle.std.specs.declared.option.Option.TheVariants.{None, Some}
 use Rattle.std.specs.Prelude.{ℕ, suc, ◌+◌, ◌-◌, ◌≤◌, ◌<◌, min, ◌≡◌, false, cond, List, [], ◌∷◌, ◌++◌, map, leb, length, take, drop}
 use Rattle.values.specs.Basic.{keep}
 use Rattle.values.specs.Value.{Value, text, before}
@@ -6,7 +8,7 @@ use Rattle.forms.specs.Read.{Read}
 use Rattle.forms.specs.Print.{Front}
 use Rattle.values.specs.Meaning.{held, ProperCell}
 use Rattle.rules.specs.declared.profile.Profile.{Profile}
-use Rattle.rules.specs.declared.answer.Answer.{Answer}
+use Rattle.rules.specs.Request.{Answer}
 use Rattle.rules.specs.State.{Table, Row, State, rows_of}
 use Rattle.rules.specs.Journal.{Journal, Books}
 use Rattle.rules.specs.Request.{Request, Create, Drop, Insert, Update, Delete, Get, Lookup, Scan, Names, Open, Keep, Back, said}
@@ -43,16 +45,18 @@ lines_from s Open i k = []
 lines_from s Keep i k = []
 lines_from s Back i k = []
 
--- one line written at the front of a buffer, or none because none is left
-pub data NextLine (ls rest : List (List Value)) (before after : List ℕ) (count : ℕ) : Type 0 where
-  ended : ls ≡ [] → count ≡ 0 → after ≡ before → NextLine ls rest before after count
-  wrote : (l : List Value) → ls ≡ l ∷ rest → Front (row_line l) before after count → NextLine ls rest before after count
-
--- the next line of a request, and what is left behind it
-pub record Lined (s : State) (q : Request) (i : ℕ) (k : Value) (before after : List ℕ) (r : Step) : Type 0 where
-  pub line : NextLine (lines_from s q i k) (lines_from s q r.at (held r.key)) before after r.count
-  pub proper : ProperCell r.key
+-- the first of the lines that are left, written at the front of a buffer, and what is left behind it
+pub record NextLine (s : State) (q : Request) (i : ℕ) (k : Value) (before after : List ℕ) (r : Step) : Type 0 where
+  pub values : List Value
+  pub first : lines_from s q i k ≡ values ∷ lines_from s q r.place.at (held r.place.key)
+  pub front : Front (row_line values) before after r.count
   pub short : r.count ≤ row_most
+  pub proper : ProperCell r.place.key
+
+-- the next line of a request, or none because none is left: then nothing is written
+abbrev pub Lined : State → Request → ℕ → Value → List ℕ → List ℕ → Option Step → Type 0
+Lined s q i k before after None = (lines_from s q i k ≡ []) × (after ≡ before)
+Lined s q i k before after (Some r) = NextLine s q i k before after r
 
 -- ---- as many as fit
 

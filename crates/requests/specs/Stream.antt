@@ -3,8 +3,8 @@ use Rattle.std.specs.Prelude.{ℕ, zero, suc, ◌+◌, ◌-◌, ◌≤◌, ◌<�
 use Rattle.forms.specs.Read.{Read, broken}
 use Rattle.forms.specs.Print.{Front}
 use Rattle.rules.specs.declared.profile.Profile.{Profile}
-use Rattle.rules.specs.declared.answer.Answer.{Answer}
-use Rattle.rules.specs.declared.answer.Refusal.TheVariants.{StoreUnsound}
+use Rattle.rules.specs.Request.{Answer}
+use Rattle.rules.specs.Refusal.{StoreUnsound}
 use Rattle.rules.specs.Journal.{Books}
 use Rattle.rules.specs.Layout.{places_of}
 use Rattle.rules.specs.Request.{Request, said, no}

@@ -12,11 +12,10 @@ use super::lines::Put;
 use super::{line, lines};
 use operations::operate;
 use records::frame::Framed;
-use records::record::Walked;
 use records::{frame, record};
-use rules::answer::{Answer, Refusal};
+use rules::answer::{Answer, Refusal, Refused};
+use rules::profile;
 use rules::profile::Profile;
-use rules::{answer, profile};
 use sound::{fresh, journal_test};
 
 // Why a run came to its end.
@@ -49,17 +48,14 @@ pub fn one(s: &mut [u8], j: &mut [u8], rec: &[u8]) -> Answer
     ensures { Lent full (whole_of full rec.now) s.old j.old s.new j.new result }
 {
     if !journal_test::are_sound(s, j) {
-        return answer::refused(Refusal::StoreUnsound, 0);
+        return Err(Refused::new(Refusal::StoreUnsound, 0));
     }
     let places = fresh::places_of(s, profile::FULL);
     match frame::next_record(rec, true) {
-        Framed::Whole(n) => {
-            if n != rec.len() {
-                return answer::refused(Refusal::RecordBroken, 0);
-            }
-            operate::execute(s, profile::FULL, places, j, &rec[2..n])
+        Framed::Whole(n) if n == rec.len() => {
+            operate::execute(s, profile::FULL, places, j, &rec[2..])
         }
-        _ => answer::refused(Refusal::RecordBroken, 0),
+        _ => Err(Refused::new(Refusal::RecordBroken, 0)),
     }
 }
 
@@ -89,18 +85,16 @@ fn answer_record(
     requires { Booked p places s.old j.old × (row_most ≤ length out.old) }
     ensures { Answered p places (request_of rec.now p) from s.old j.old s.new j.new out.old out.new result }
 {
-    match record::walk(rec, p) {
-        Walked::Breaks(_) => put_only(out, answer::refused(Refusal::RecordBroken, 0)),
-        Walked::Ends(_) => {
-            let k = record::byte_of(rec, 1);
-            if operate::is_read(k) {
-                let a = operate::ask(s, p, places, rec, k);
-                return lines::put_lines(s, p, places, rec, a, from, out);
-            }
-            let a = operate::write(s, p, places, j, rec, k);
-            put_only(out, a)
-        }
+    if record::walk(rec, p).is_err() {
+        return put_only(out, Err(Refused::new(Refusal::RecordBroken, 0)));
     }
+    let k = record::byte_of(rec, 1);
+    if operate::is_read(k) {
+        let a = operate::ask(s, p, places, rec, k);
+        return lines::put_lines(s, p, places, rec, a, from, out);
+    }
+    let a = operate::write(s, p, places, j, rec, k);
+    put_only(out, a)
 }
 
 // The records of an input one after the other over a store and a journal that are known to be sound and stay so, `from` row lines of the first being
@@ -123,36 +117,27 @@ pub fn run(
     let mut count = 0;
     let mut written = 0;
     let mut lines = from;
-    while line::ROW_MOST <= out.len() - written {
+    let halt = loop {
+        if out.len() - written < line::ROW_MOST {
+            break Halt::Full;
+        }
         match frame::next_record(&input[taken..], ended) {
             Framed::Whole(n) => {
-                let a = taken + 2;
-                let e = taken + n;
-                let put = answer_record(s, p, places, j, &input[a..e], lines, &mut out[written..]);
+                let end = taken + n;
+                let rec = &input[taken + 2..end];
+                let put = answer_record(s, p, places, j, rec, lines, &mut out[written..]);
                 written += put.written;
                 lines = put.lines;
                 if !put.done {
-                    return Ran {
-                        halt: Halt::Full,
-                        taken,
-                        skip,
-                        count,
-                        written,
-                        lines,
-                    };
+                    break Halt::Full;
                 }
-                taken = e;
-                count += 1;
-                lines = 0;
+                taken = end;
             }
             Framed::Skip(n) => {
-                let put = put_only(
+                written += line::put_answer(
                     &mut out[written..],
-                    answer::refused(Refusal::RecordBroken, 0),
+                    Err(Refused::new(Refusal::RecordBroken, 0)),
                 );
-                written += put.written;
-                count += 1;
-                lines = 0;
                 let left = input.len() - taken;
                 if left < n {
                     skip = n - left;
@@ -161,40 +146,21 @@ pub fn run(
                     taken += n;
                 }
             }
-            Framed::More => {
-                return Ran {
-                    halt: Halt::Waiting,
-                    taken,
-                    skip,
-                    count,
-                    written,
-                    lines,
-                };
-            }
+            Framed::More => break Halt::Waiting,
             Framed::Cut => {
-                let put = put_only(
+                written += line::put_answer(
                     &mut out[written..],
-                    answer::refused(Refusal::RecordBroken, 0),
+                    Err(Refused::new(Refusal::RecordBroken, 0)),
                 );
-                written += put.written;
-                count += 1;
-                lines = 0;
                 taken = input.len();
             }
-            Framed::Done => {
-                return Ran {
-                    halt: Halt::Stopped,
-                    taken,
-                    skip,
-                    count,
-                    written,
-                    lines,
-                };
-            }
+            Framed::Done => break Halt::Stopped,
         }
-    }
+        count += 1;
+        lines = 0;
+    };
     Ran {
-        halt: Halt::Full,
+        halt,
         taken,
         skip,
         count,
@@ -218,7 +184,7 @@ pub fn many(
     if !journal_test::are_sound(s, j) {
         let mut written = 0;
         if line::ANSWER_MOST <= out.len() {
-            written = line::put_answer(out, answer::refused(Refusal::StoreUnsound, 0));
+            written = line::put_answer(out, Err(Refused::new(Refusal::StoreUnsound, 0)));
         }
         return Ran {
             halt: Halt::Unsound,

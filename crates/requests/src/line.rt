@@ -25,10 +25,9 @@ fn put_spaced(out: &mut [u8], from: usize, m: u64) -> usize
     requires { from + 21 ≤ length out.old }
     ensures { Front (take from out.old ++ (space ∷ decimal m)) out.old out.new result × (result ≤ from + 21) }
 {
-    out[from] = 32;
+    out[from] = b' ';
     let at = from + 1;
-    let n = print::put_decimal(&mut out[at..], m);
-    at + n
+    at + print::put_decimal(&mut out[at..], m)
 }
 
 // The same, and a newline.
@@ -37,7 +36,7 @@ fn put_last(out: &mut [u8], from: usize, m: u64) -> usize
     ensures { Front (take from out.old ++ (space ∷ (decimal m ++ (newline ∷ [])))) out.old out.new result × (result ≤ from + 22) }
 {
     let n = put_spaced(out, from, m);
-    out[n] = 10;
+    out[n] = b'\n';
     n + 1
 }
 
@@ -46,21 +45,18 @@ pub fn put_answer(out: &mut [u8], a: Answer) -> usize
     requires { answer_most ≤ length out.old }
     ensures { Front (answer_line (said a)) out.old out.new result × (result ≤ answer_most) }
 {
-    let k = a.kind;
-    if answer::is_accepted(k) {
-        out[0] = 111;
-        out[1] = 107;
-        return put_last(out, 2, a.count as u64);
+    match a {
+        Ok(count) => {
+            out[..2].copy_from_slice(b"ok");
+            put_last(out, 2, count as u64)
+        }
+        Err(f) => {
+            out[..2].copy_from_slice(b"no");
+            let n = put_spaced(out, 2, answer::number(f.kind));
+            let m = put_spaced(out, n, f.at as u64);
+            put_last(out, m, u64::from(f.gone))
+        }
     }
-    let code = answer::number(k);
-    out[0] = 110;
-    out[1] = 111;
-    let n = put_spaced(out, 2, code);
-    let m = put_spaced(out, n, a.at as u64);
-    if a.gone {
-        return put_last(out, m, 1);
-    }
-    put_last(out, m, 0)
 }
 
 // A line of one value.
@@ -68,12 +64,9 @@ pub fn put_single(out: &mut [u8], c: Cell) -> usize
     requires { (row_most ≤ length out.old) × ProperCell c }
     ensures { Front (row_line (held c ∷ [])) out.old out.new result × (result ≤ row_most) }
 {
-    out[0] = 114;
-    out[1] = 111;
-    out[2] = 119;
-    out[3] = 32;
+    out[..4].copy_from_slice(b"row ");
     let n = 4 + print::print_value(&mut out[4..], c);
-    out[n] = 10;
+    out[n] = b'\n';
     n + 1
 }
 
@@ -89,18 +82,13 @@ pub fn put_row(
     requires { LaidStore p places s.now × (i < length (parse p places s.now).rows) × (columns ≡ length (row_in p places s.now i).cells) × (columns ≤ 8) × (row_most ≤ length out.old) }
     ensures { Front (row_line (row_in p places s.now i).cells) out.old out.new result × (result ≤ row_most) }
 {
-    out[0] = 114;
-    out[1] = 111;
-    out[2] = 119;
+    out[..3].copy_from_slice(b"row");
     let mut n = 3;
-    let mut j = 0;
-    while j < columns {
-        out[n] = 32;
+    for j in 0..columns {
+        out[n] = b' ';
         let from = n + 1;
-        let c = row::cell_at(s, p, places, i, j);
-        n = from + print::print_value(&mut out[from..], c);
-        j += 1;
+        n = from + print::print_value(&mut out[from..], row::cell_at(s, p, places, i, j));
     }
-    out[n] = 10;
+    out[n] = b'\n';
     n + 1
 }

@@ -12,9 +12,7 @@ use Rattle.values.specs.Basic.{is_nil, ◌or_else◌, maybe}
 use Rattle.values.specs.Value.{Value, same}
 use Rattle.areas.specs.Sorted.{All}
 use Rattle.rules.specs.declared.profile.Profile.{Profile}
-use Rattle.rules.specs.declared.answer.Refusal.{Refusal}
-use Rattle.rules.specs.declared.answer.Refusal.TheVariants.{JournalFull, RowReferenced}
-use Rattle.rules.specs.Refusal.{number_of}
+use Rattle.rules.specs.Refusal.{Refusal, JournalFull, RowReferenced, number_of}
 use Rattle.rules.specs.State.{Table, Row, table_named, row_with, key_of, row_of}
 use Rattle.rules.specs.Journal.{Journal, is_open, lacks, Books, batch_of, with_notes}
 use Rattle.rules.specs.Request.{Pair, Request, Create, Drop, Insert, Update, Delete, Get, Lookup, Scan, Names, Open, Keep, Back, entered, no, Carried, no_carrying, with_gone}

@@ -10,9 +10,7 @@ use borrow.Author.Tests.{eqb-true}
 use Rattle.values.specs.Basic.{any, nth, or_default, ◌or_else◌}
 use Rattle.values.specs.Value.{Value, before}
 use Rattle.rules.specs.declared.profile.Profile.{Profile}
-use Rattle.rules.specs.declared.answer.Refusal.{Refusal}
-use Rattle.rules.specs.declared.answer.Refusal.TheVariants.{Accepted, RecordBroken, UnknownTable, TableExists, EmptyTableName, NoColumns, KeyColumnOutOfRange, EmptyColumnName, KeyNullable, KeyNotUnique, KeyIndexed, NullableWithoutDefault, NullDefault, DefaultKind, UniqueNotIndexed, ReferenceNotIndexed, UnknownTarget, TargetKind, ColumnTwice, TablesFull, TableReferenced, TooManyValues, MapCount, NoDefault, MapColumn, RowSize, KeyUndefined, KeyExists, WrongKind, NullNotAllowed, TargetMissing, ValueExists, RowReferenced, RowsFull, RowAbsent, KeysNotRising, NotIndexed, StoreUnsound, JournalFull, InsideBatch, BatchOutOfTurn}
-use Rattle.rules.specs.Refusal.{number_of}
+use Rattle.rules.specs.Refusal.{Refusal, Accepted, RecordBroken, UnknownTable, TableExists, EmptyTableName, NoColumns, KeyColumnOutOfRange, EmptyColumnName, KeyNullable, KeyNotUnique, KeyIndexed, NullableWithoutDefault, NullDefault, DefaultKind, UniqueNotIndexed, ReferenceNotIndexed, UnknownTarget, TargetKind, ColumnTwice, TablesFull, TableReferenced, TooManyValues, MapCount, NoDefault, MapColumn, RowSize, KeyUndefined, KeyExists, WrongKind, NullNotAllowed, TargetMissing, ValueExists, RowReferenced, RowsFull, RowAbsent, KeysNotRising, NotIndexed, StoreUnsound, JournalFull, InsideBatch, BatchOutOfTurn, number_of}
 use Rattle.rules.specs.State.{Name, same_name, Column, Table, Row, State}
 use Rattle.rules.specs.Journal.{Journal, Books}
 use Rattle.rules.specs.Request.{Pair}

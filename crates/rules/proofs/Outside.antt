@@ -13,8 +13,7 @@ use Rattle.values.specs.Basic.{is_nil, is_some, ◌or_else◌, maybe}
 use Rattle.values.specs.Value.{Value, same}
 use Rattle.areas.specs.Sorted.{All}
 use Rattle.rules.specs.declared.profile.Profile.{Profile}
-use Rattle.rules.specs.declared.answer.Refusal.{Refusal}
-use Rattle.rules.specs.declared.answer.Refusal.TheVariants.{JournalFull, RowReferenced}
+use Rattle.rules.specs.Refusal.{Refusal, JournalFull, RowReferenced}
 use Rattle.rules.specs.State.{Name, Table, Row, table_named, row_with, key_of, row_of}
 use Rattle.rules.specs.Journal.{Event, Journal, lacks, Books, batch_of, with_notes}
 use Rattle.rules.specs.Request.{Pair, Request, Create, Drop, Insert, Update, Delete, Get, Lookup, Scan, Names, Open, Keep, Back, no, Carried, no_carrying, with_gone, entered}

@@ -3,7 +3,7 @@
 use Rattle.std.specs.Prelude.{ℕ, true, List, [], ◌∷◌}
 use Rattle.std.proofs.Math.Option.{none, some}
 use Rattle.values.specs.Value.{null}
-use Rattle.rules.specs.declared.answer.Refusal.TheVariants.{BatchOutOfTurn, InsideBatch, JournalFull, KeyExists, ValueExists}
+use Rattle.rules.specs.Refusal.{BatchOutOfTurn, InsideBatch, JournalFull, KeyExists, ValueExists}
 use Rattle.rules.specs.Ascii.{ascii}
 use Rattle.rules.specs.State.{Name, Table}
 use Rattle.rules.specs.Request.{Pair, Request, Create, Drop, Insert, Update, Delete, Scan, Open, Keep, Back, ok, no, with_gone}

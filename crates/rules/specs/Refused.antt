@@ -3,8 +3,7 @@
 use Rattle.std.specs.Prelude.{◌≡◌, ℕ, Bool, true, false, cond, List, [], ◌∷◌, eqb, length}
 use Rattle.values.specs.Basic.{any, is_some}
 use Rattle.values.specs.Value.{Value}
-use Rattle.rules.specs.declared.answer.Refusal.{Refusal}
-use Rattle.rules.specs.Refusal.{number_of}
+use Rattle.rules.specs.Refusal.{Refusal, number_of}
 use Rattle.rules.specs.State.{State, table_named}
 use Rattle.rules.specs.Request.{Request, Create, Drop, Insert, Update, Delete, Get, Lookup, Scan, Names, Open, Keep, Back}
 use Rattle.rules.specs.Step.{Outcome, is_accepted}

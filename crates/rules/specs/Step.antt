@@ -7,9 +7,7 @@ use Rattle.std.proofs.Math.Dec.{compare_is_eq}
 use Rattle.values.specs.Basic.{is_nil, keep, nth, is_some, ◌or_else◌, or_default, insert_by, maybe}
 use Rattle.values.specs.Value.{Value, text, same, among}
 use Rattle.rules.specs.declared.profile.Profile.{Profile}
-use Rattle.rules.specs.declared.answer.Refusal.{Refusal}
-use Rattle.rules.specs.declared.answer.Refusal.TheVariants.{JournalFull, InsideBatch, BatchOutOfTurn, UnknownTable, TableExists, TablesFull, TableReferenced, MapColumn, RowReferenced, NotIndexed}
-use Rattle.rules.specs.Refusal.{number_of}
+use Rattle.rules.specs.Refusal.{Refusal, JournalFull, InsideBatch, BatchOutOfTurn, UnknownTable, TableExists, TablesFull, TableReferenced, MapColumn, RowReferenced, NotIndexed, number_of}
 use Rattle.rules.specs.Journal.{Event, absent, stood, unwound, Journal, batch_of, with_notes, is_open, lacks, Books}
 use Rattle.rules.specs.State.{Name, Column, Table, Row, State, cmp_table, cmp_row, is_named, table_named, of_table, row_with, rows_of, cell_at, key_of, row_of}
 use Rattle.rules.specs.Request.{Pair, Request, Create, Drop, Insert, Update, Delete, Get, Lookup, Scan, Names, Open, Keep, Back, entered, Reply, ok, no, no_carrying, with_gone}

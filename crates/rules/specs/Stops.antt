@@ -5,8 +5,7 @@ use Rattle.std.proofs.Math.Option.{Option, none, some}
 use Rattle.values.specs.Basic.{◌or_else◌}
 use Rattle.values.specs.Value.{Value, same}
 use Rattle.rules.specs.declared.profile.Profile.{Profile}
-use Rattle.rules.specs.declared.answer.Refusal.{Refusal}
-use Rattle.rules.specs.declared.answer.Refusal.TheVariants.{RowReferenced}
+use Rattle.rules.specs.Refusal.{Refusal, RowReferenced}
 use Rattle.rules.specs.State.{Name, Table, Row, table_named, row_with, key_of}
 use Rattle.rules.specs.Journal.{Books}
 use Rattle.rules.specs.Request.{Pair, Request, Update, entered_pair, no, Carried, no_carrying, with_gone}

@@ -1,186 +1,113 @@
 // What a request is answered.
-ghost use Rattle.std.specs.Prelude.{◌≡◌, eqb};
-ghost use Rattle.values.specs.Meaning.{text_bytes, meaning};
-ghost use Rattle.rules.specs.Refusal.{number_of};
-ghost use Rattle.rules.specs.Request.{said, bare, ok, no, carried_by, no_carrying, with_gone};
+ghost use Rattle.std.specs.Prelude.{◌≡◌, false};
+ghost use Rattle.rules.specs.Refusal.{number_of, refusal_of};
+ghost use Rattle.rules.specs.Request.{told, no, no_with, no_carrying, carried_of, with_gone};
 
 use values::value::{Text, Value};
 
-#[derive(Clone, Copy)]
+// Why a request is refused, each with document 01's number.
+#[derive(Clone, Copy, PartialEq, Eq, Debug)]
 pub enum Refusal {
-    Accepted,
-    RecordBroken,
-    UnknownTable,
-    TableExists,
-    EmptyTableName,
-    NoColumns,
-    KeyColumnOutOfRange,
-    EmptyColumnName,
-    KeyNullable,
-    KeyNotUnique,
-    KeyIndexed,
-    NullableWithoutDefault,
-    NullDefault,
-    DefaultKind,
-    UniqueNotIndexed,
-    ReferenceNotIndexed,
-    UnknownTarget,
-    TargetKind,
-    ColumnTwice,
-    TablesFull,
-    TableReferenced,
-    TooManyValues,
-    MapCount,
-    NoDefault,
-    MapColumn,
-    RowSize,
-    KeyUndefined,
-    KeyExists,
-    WrongKind,
-    NullNotAllowed,
-    TargetMissing,
-    ValueExists,
-    RowReferenced,
-    RowsFull,
-    RowAbsent,
-    KeysNotRising,
-    NotIndexed,
-    StoreUnsound,
-    JournalFull,
-    InsideBatch,
-    BatchOutOfTurn,
+    RecordBroken = 1,
+    UnknownTable = 2,
+    TableExists = 3,
+    EmptyTableName = 4,
+    NoColumns = 5,
+    KeyColumnOutOfRange = 6,
+    EmptyColumnName = 7,
+    KeyNullable = 8,
+    KeyNotUnique = 9,
+    KeyIndexed = 10,
+    NullableWithoutDefault = 11,
+    NullDefault = 12,
+    DefaultKind = 13,
+    UniqueNotIndexed = 14,
+    ReferenceNotIndexed = 15,
+    UnknownTarget = 16,
+    TargetKind = 17,
+    ColumnTwice = 18,
+    TablesFull = 19,
+    TableReferenced = 20,
+    TooManyValues = 21,
+    MapCount = 22,
+    NoDefault = 23,
+    MapColumn = 24,
+    RowSize = 25,
+    KeyUndefined = 26,
+    KeyExists = 27,
+    WrongKind = 28,
+    NullNotAllowed = 29,
+    TargetMissing = 30,
+    ValueExists = 31,
+    RowReferenced = 32,
+    RowsFull = 33,
+    RowAbsent = 34,
+    KeysNotRising = 35,
+    NotIndexed = 37,
+    StoreUnsound = 38,
+    JournalFull = 43,
+    InsideBatch = 44,
+    BatchOutOfTurn = 45,
 }
 
-// `kind` says why, `count` is N, `at` and `gone` are AT and GONE; what 20 and 32 carry stands beside them.
+// What 20 and 32 carry: the referencing table, its first referencing column, or its key column and the key of a row there.
 #[derive(Clone, Copy)]
-pub struct Answer {
-    pub kind: Refusal,
-    pub count: usize,
-    pub at: usize,
-    pub gone: bool,
+pub struct Carried {
     pub table: Text,
     pub column: usize,
     pub key: Value,
 }
 
-// Document 01's number of a refusal, 0 of none.
+// `no CODE AT GONE`: `kind` says why.
+#[derive(Clone, Copy)]
+pub struct Refused {
+    pub kind: Refusal,
+    pub at: usize,
+    pub gone: bool,
+    pub carried: Option<Carried>,
+}
+
+// `ok N`, or why not.
+pub type Answer = Result<usize, Refused>;
+
+// Document 01's number of a refusal.
 pub fn number(k: Refusal) -> u64
-    ensures { result ≡ number_of k }
+    ensures { result ≡ number_of (refusal_of k) }
 {
-    match k {
-        Refusal::Accepted => 0,
-        Refusal::RecordBroken => 1,
-        Refusal::UnknownTable => 2,
-        Refusal::TableExists => 3,
-        Refusal::EmptyTableName => 4,
-        Refusal::NoColumns => 5,
-        Refusal::KeyColumnOutOfRange => 6,
-        Refusal::EmptyColumnName => 7,
-        Refusal::KeyNullable => 8,
-        Refusal::KeyNotUnique => 9,
-        Refusal::KeyIndexed => 10,
-        Refusal::NullableWithoutDefault => 11,
-        Refusal::NullDefault => 12,
-        Refusal::DefaultKind => 13,
-        Refusal::UniqueNotIndexed => 14,
-        Refusal::ReferenceNotIndexed => 15,
-        Refusal::UnknownTarget => 16,
-        Refusal::TargetKind => 17,
-        Refusal::ColumnTwice => 18,
-        Refusal::TablesFull => 19,
-        Refusal::TableReferenced => 20,
-        Refusal::TooManyValues => 21,
-        Refusal::MapCount => 22,
-        Refusal::NoDefault => 23,
-        Refusal::MapColumn => 24,
-        Refusal::RowSize => 25,
-        Refusal::KeyUndefined => 26,
-        Refusal::KeyExists => 27,
-        Refusal::WrongKind => 28,
-        Refusal::NullNotAllowed => 29,
-        Refusal::TargetMissing => 30,
-        Refusal::ValueExists => 31,
-        Refusal::RowReferenced => 32,
-        Refusal::RowsFull => 33,
-        Refusal::RowAbsent => 34,
-        Refusal::KeysNotRising => 35,
-        Refusal::NotIndexed => 37,
-        Refusal::StoreUnsound => 38,
-        Refusal::JournalFull => 43,
-        Refusal::InsideBatch => 44,
-        Refusal::BatchOutOfTurn => 45,
+    k as u64
+}
+
+impl Refused {
+    // `no CODE AT 0`, carrying nothing.
+    pub fn new(kind: Refusal, at: usize) -> Refused
+        ensures { told result ≡ no (refusal_of kind) at }
+    {
+        Refused::made(kind, at, None)
     }
-}
 
-// Whether it is no refusal.
-pub fn is_accepted(k: Refusal) -> bool
-    ensures { result ≡ eqb (number_of k) 0 }
-{
-    number(k) == 0
-}
-
-// `ok N`.
-pub fn accepted(n: usize) -> Answer
-    ensures { said result ≡ ok n }
-{
-    refusing(Refusal::Accepted, n, 0)
-}
-
-// `no CODE AT 0`, carrying nothing.
-pub fn refused(k: Refusal, at: usize) -> Answer
-    ensures { said result ≡ no k at }
-{
-    refusing(k, 0, at)
-}
-
-fn refusing(kind: Refusal, count: usize, at: usize) -> Answer
-    ensures { said result ≡ bare kind count at }
-{
-    Answer {
-        kind,
-        count,
-        at,
-        gone: false,
-        table: Text {
-            a: 0,
-            b: 0,
-            c: 0,
-            len: 0,
-        },
-        column: 0,
-        key: Value::Null,
+    // A refusal that carries a table, a column and a key.
+    pub fn carrying(kind: Refusal, at: usize, carried: Carried) -> Refused
+        ensures { told result ≡ no_carrying (refusal_of kind) at (carried_of carried) }
+    {
+        Refused::made(kind, at, Some(carried))
     }
-}
 
-// A refusal that carries a table, a column and a key.
-pub fn carrying(kind: Refusal, at: usize, table: Text, column: usize, key: Value) -> Answer
-    ensures { said result ≡ no_carrying kind at (carried_by (text_bytes table) column (meaning key)) }
-{
-    Answer {
-        kind,
-        count: 0,
-        at,
-        gone: false,
-        table,
-        column,
-        key,
+    // A refusal without GONE.
+    fn made(kind: Refusal, at: usize, carried: Option<Carried>) -> Refused
+        ensures { told result ≡ with_gone false (no_with (refusal_of kind) at carried) }
+    {
+        Refused {
+            kind,
+            at,
+            gone: false,
+            carried,
+        }
     }
-}
 
-// The same answer with GONE.
-pub fn with_gone(a: Answer, gone: bool) -> Answer
-    ensures { said result ≡ with_gone gone (said a) }
-{
-    let kind = a.kind;
-    let table = a.table;
-    let key = a.key;
-    Answer {
-        kind,
-        count: a.count,
-        at: a.at,
-        gone,
-        table,
-        column: a.column,
-        key,
+    // The same refusal with GONE.
+    pub fn with_gone(self, gone: bool) -> Refused
+        ensures { told result ≡ with_gone gone (told self) }
+    {
+        Refused { gone, ..self }
     }
 }

@@ -8,8 +8,8 @@ use Rattle.values.specs.Basic.{maybe}
 use Rattle.values.specs.Bytes.{Bytes}
 use Rattle.values.specs.Value.{Value, normalised}
 use Rattle.forms.specs.Read.{Read, got, broken}
-use Rattle.rules.specs.declared.answer.Answer.{Answer}
-use Rattle.rules.specs.declared.answer.Refusal.TheVariants.{StoreUnsound, JournalFull, InsideBatch, BatchOutOfTurn}
+use Rattle.rules.specs.Request.{Answer}
+use Rattle.rules.specs.Refusal.{StoreUnsound, JournalFull, InsideBatch, BatchOutOfTurn}
 use Rattle.rules.specs.Profile.{full}
 use Rattle.rules.specs.State.{Name, empty}
 use Rattle.rules.specs.Journal.{Books, is_open, lacks, batch_of, with_notes}

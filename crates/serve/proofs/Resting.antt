@@ -13,8 +13,9 @@ use Rattle.requests.proofs.Running.{records-by}
 use Rattle.serve.specs.declared.flow.Flow.{Flow}
 use Rattle.serve.specs.declared.flow.Turn.{Turn}
 use Rattle.serve.specs.declared.End.TheVariants.{Whole, Unsound, Unwritten}
-use Rattle.serve.specs.declared.Pause.{Pause}
-use Rattle.serve.specs.declared.Pause.TheVariants as pause
+use Rattle.serve.specs.declared.End.{End}
+use Rattle.std.specs.declared.option.Option.{Option}
+use Rattle.std.specs.declared.option.Option.TheVariants.{None, Some}
 use Rattle.serve.specs.Buffers.{Buffers, BookedIn}
 use Rattle.serve.specs.Flow.{hand, Turned}
 use Rattle.serve.specs.Course.{standing, record_most, Came, Rested}
@@ -109,10 +110,10 @@ module _ (p : Profile) (R : ℕ) (f : Flow) (before : Buffers) (input : List ℕ
         omega (arith, l, length-take-le t.flow.have rest answering-turn.have)
 
     module _ (records : ℕ) where
-      abbrev After : Pause → Type 0
-      After x = Rested p R f before after input rest (record { flow = t.flow; records = records; pause = x })
+      abbrev After : Option End → Type 0
+      After x = Rested p R f before after input rest (record { flow = t.flow; records = records; end = x })
 
-      rested : (x : Pause) → (x ≡ pause.Waiting → t.ran.halt ≡ Waiting) → (x ≡ pause.Over Whole → t.ran.halt ≡ Stopped) → (x ≡ pause.Over Unsound → ⊥) → After x
+      rested : (x : Option End) → (x ≡ None → t.ran.halt ≡ Waiting) → (x ≡ Some Whole → t.ran.halt ≡ Stopped) → (x ≡ Some Unsound → ⊥) → After x
       rested x w d u =
           record {
             wrote = answering-turn.wrote;
@@ -127,15 +128,15 @@ module _ (p : Profile) (R : ℕ) (f : Flow) (before : Buffers) (input : List ℕ
             tested = u;
           }
 
-      pub rested-unwritten : (x : Error) → After (pause.Over (Unwritten x))
+      pub rested-unwritten : (x : Error) → After (Some (Unwritten x))
       rested-unwritten x =
-          rested (pause.Over (Unwritten x)) (λ e. let z : ◌≡◌ {A = ℕ} 0 1 = cc in absurd (omega arith)) (λ e. let z : ◌≡◌ {A = ℕ} 0 1 = cc in absurd (omega arith))
+          rested (Some (Unwritten x)) (λ e. let z : ◌≡◌ {A = ℕ} 0 1 = cc in absurd (omega arith)) (λ e. let z : ◌≡◌ {A = ℕ} 0 1 = cc in absurd (omega arith))
           (λ e. let z : ◌≡◌ {A = ℕ} 0 1 = cc in absurd (omega arith))
 
-      pub rested-waiting : t.ran.halt ≡ Waiting → After pause.Waiting
+      pub rested-waiting : t.ran.halt ≡ Waiting → After None
       rested-waiting k =
-          rested pause.Waiting (λ e. k) (λ e. let z : ◌≡◌ {A = ℕ} 0 1 = cc in absurd (omega arith)) (λ e. let z : ◌≡◌ {A = ℕ} 0 1 = cc in absurd (omega arith))
+          rested None (λ e. k) (λ e. let z : ◌≡◌ {A = ℕ} 0 1 = cc in absurd (omega arith)) (λ e. let z : ◌≡◌ {A = ℕ} 0 1 = cc in absurd (omega arith))
 
-      pub rested-stopped : t.ran.halt ≡ Stopped → After (pause.Over Whole)
+      pub rested-stopped : t.ran.halt ≡ Stopped → After (Some Whole)
       rested-stopped k =
-          rested (pause.Over Whole) (λ e. let z : ◌≡◌ {A = ℕ} 0 1 = cc in absurd (omega arith)) (λ e. k) (λ e. let z : ◌≡◌ {A = ℕ} 0 1 = cc in absurd (omega arith))
+          rested (Some Whole) (λ e. let z : ◌≡◌ {A = ℕ} 0 1 = cc in absurd (omega arith)) (λ e. k) (λ e. let z : ◌≡◌ {A = ℕ} 0 1 = cc in absurd (omega arith))

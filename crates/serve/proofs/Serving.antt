@@ -14,9 +14,9 @@ use Rattle.requests.specs.Stream.{records_in}
 use Rattle.serve.specs.declared.flow.Flow.{Flow}
 use Rattle.serve.specs.declared.End.{End}
 use Rattle.serve.specs.declared.End.TheVariants.{Whole, Unsound}
-use Rattle.serve.specs.declared.Pause.TheVariants.{Waiting, Over}
-use Rattle.serve.specs.declared.Piece.{Piece}
-use Rattle.serve.specs.declared.Piece.TheVariants.{Lost}
+use Rattle.std.specs.declared.option.Option.TheVariants.{None, Some}
+use Rattle.std.specs.declared.result.Result.{Result}
+use Rattle.std.specs.declared.result.Result.TheVariants.{Err}
 use Rattle.serve.specs.declared.Taken.{Taken}
 use Rattle.serve.specs.declared.Rest.{Rest}
 use Rattle.serve.specs.declared.Report.{Report}
@@ -29,9 +29,9 @@ use Rattle.serve.proofs.Coming.{came-nowhere, came-taken, came-then}
 
 -- ---- what came in stands behind the bytes at hand
 
-pub taken_in : (f g : Flow) (n k : ℕ) (input part : List ℕ) (x : Piece) → f.have ≤ length input → n ≤ length part → g.have ≤ length (put_mid f.have k input part) → Arrived f n g
-    → ((e : End) → x ≡ Lost e → Fails e)
-    → TakenIn f input (put_mid f.have k input part) (record { flow = g; count = n; piece = x })
+pub taken_in : (f g : Flow) (n k : ℕ) (input part : List ℕ) (x : Result Unit End) → f.have ≤ length input → n ≤ length part → g.have ≤ length (put_mid f.have k input part) → Arrived f n g
+    → ((e : End) → x ≡ Err e → Fails e)
+    → TakenIn f input (put_mid f.have k input part) (record { flow = g; count = n; kept = x })
 taken_in f g n k input part x l m h a z =
     let e : g.have ≡ length (hand f input) + n = omega (arith, a.have, length-take-le f.have input l) in
     record {
@@ -113,7 +113,7 @@ module _ (p : Profile) (R : ℕ) (before : Buffers) where
           rest.came
           (λ e. absurd (never e))
 
-      pub serving-next : r.pause ≡ Waiting → Serving p R before after kept r.flow
+      pub serving-next : r.end ≡ None → Serving p R before after kept r.flow
       serving-next w =
           let e = (rest.waits w).0 in
           record {
@@ -128,7 +128,7 @@ module _ (p : Profile) (R : ℕ) (before : Buffers) where
 
       -- where more may follow, it goes on only before the end
       pub course-after : (last : Bool) → (last ≡ false → t.flow.ended ≡ false) → (x : Report) → x.torn ≡ r.flow.have
-          → x.missing ≡ r.flow.skip → r.pause ≡ Over x.end
+          → x.missing ≡ r.flow.skip → r.end ≡ Some x.end
           → Course p R before after last x
       course-after last on x torn missing w =
           record {
@@ -141,10 +141,10 @@ module _ (p : Profile) (R : ℕ) (before : Buffers) where
             torn = torn ∙ sym (length-take-le r.flow.have kept rest.have);
             missing = missing;
             passing = rest.passing;
-            done = λ e l. rest.stops (w ∙ ap Over e);
+            done = λ e l. rest.stops (w ∙ ap Some e);
             goes_on = on;
-            rests = λ e l. absurd (true≢false (sym (rest.stops (w ∙ ap Over e)).0 ∙ on l));
-            tested = λ e. rest.tested (w ∙ ap Over e);
+            rests = λ e l. absurd (true≢false (sym (rest.stops (w ∙ ap Some e)).0 ∙ on l));
+            tested = λ e. rest.tested (w ∙ ap Some e);
           }
 
 -- ---- the store keeps its places

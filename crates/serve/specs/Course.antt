@@ -10,8 +10,8 @@ use Rattle.requests.specs.Stream.{records_in, bytes_of, text_of, books_after}
 use Rattle.serve.specs.declared.flow.Flow.{Flow}
 use Rattle.serve.specs.declared.End.{End}
 use Rattle.serve.specs.declared.End.TheVariants.{Whole, Unsound}
-use Rattle.serve.specs.declared.Piece.TheVariants.{Lost}
-use Rattle.serve.specs.declared.Pause.TheVariants.{Waiting, Over}
+use Rattle.std.specs.declared.result.Result.TheVariants.{Err}
+use Rattle.std.specs.declared.option.Option.TheVariants.{None, Some}
 use Rattle.serve.specs.declared.Rest.{Rest}
 use Rattle.serve.specs.declared.Taken.{Taken}
 use Rattle.serve.specs.declared.Report.{Report}
@@ -75,7 +75,7 @@ pub record TakenIn (f : Flow) (before after : List ℕ) (r : Taken) : Type 0 whe
   pub skip : r.flow.skip ≡ f.skip
   pub lines : r.flow.lines ≡ f.lines
   pub ended : r.flow.ended ≡ is_nil piece
-  pub lost : (e : End) → r.piece ≡ Lost e → Fails e
+  pub lost : (e : End) → r.kept ≡ Err e → Fails e
 
 -- ---- the records at hand answered, turn by turn
 
@@ -85,9 +85,9 @@ pub record Rested (p : Profile) (R : ℕ) (f : Flow) (before after : Buffers) (i
   pub ended : r.flow.ended ≡ f.ended
   pub have : r.flow.have ≤ length kept
   pub passing : (r.flow.skip ≢ 0) → hand r.flow kept ≡ []
-  pub waits : r.pause ≡ Waiting → (f.ended ≡ false) × (r.flow.have < record_most) × (records_in p (hand r.flow kept) false ≡ [])
-  pub stops : r.pause ≡ Over Whole → (f.ended ≡ true) × (left p (standing after r.flow kept) [] ≡ [])
-  pub tested : r.pause ≡ Over Unsound → ⊥
+  pub waits : r.end ≡ None → (f.ended ≡ false) × (r.flow.have < record_most) × (records_in p (hand r.flow kept) false ≡ [])
+  pub stops : r.end ≡ Some Whole → (f.ended ≡ true) × (left p (standing after r.flow kept) [] ≡ [])
+  pub tested : r.end ≡ Some Unsound → ⊥
 
 -- ---- a run over a sound store and journal: some input was read, some text written; where bytes are missing, none is at hand; where all is done,
 -- nothing is left, or where more may follow (the input has not ended then), no whole record

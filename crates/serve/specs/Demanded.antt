@@ -4,7 +4,7 @@ use Rattle.std.specs.Prelude.{◌≡◌, ℕ, ◌≤◌, true, false, List, [], 
 use Rattle.std.proofs.Math.Option.{some}
 use Rattle.values.specs.Bytes.{Bytes}
 use Rattle.forms.specs.Read.{Read, got, broken}
-use Rattle.rules.specs.declared.answer.Answer.{Answer}
+use Rattle.rules.specs.Request.{Answer}
 use Rattle.rules.specs.Profile.{full}
 use Rattle.rules.specs.State.{Name}
 use Rattle.rules.specs.Request.{Request}

@@ -4,7 +4,6 @@ ghost use Rattle.journal.specs.Books.{Booked};
 ghost use Rattle.serve.specs.Buffers.{lent};
 ghost use Rattle.serve.specs.Flow.{started, Arrived, Passes, Keeps, Turned};
 
-use areas::area;
 use requests::entry;
 use requests::entry::Ran;
 use rules::profile::Profile;
@@ -45,9 +44,8 @@ pub fn arrived(f: Flow, n: usize, input: &[u8]) -> Flow
 {
     Flow {
         have: f.have + n,
-        skip: f.skip,
-        lines: f.lines,
         ended: n == 0,
+        ..f
     }
 }
 
@@ -57,9 +55,7 @@ fn take_away(input: &mut [u8], have: usize, n: usize)
     requires have_in_bounds { have ≤ length input.old }
     ensures { take (have - n) input.new ≡ drop n (take have input.old) }
 {
-    if 0 < n {
-        area::close_place(input, 0, have, n);
-    }
+    input.copy_within(n..have, 0);
 }
 
 // Passes over what is to be passed over, as far as it is at hand.
@@ -67,20 +63,12 @@ fn pass_over(input: &mut [u8], f: Flow) -> Flow
     requires { f.have ≤ length input.old }
     ensures { Passes f input.old input.new result }
 {
-    if f.have < f.skip {
-        return Flow {
-            have: 0,
-            skip: f.skip - f.have,
-            lines: f.lines,
-            ended: f.ended,
-        };
-    }
-    take_away(input, f.have, f.skip);
+    let n = f.have.min(f.skip);
+    take_away(input, f.have, n);
     Flow {
-        have: f.have - f.skip,
-        skip: 0,
-        lines: f.lines,
-        ended: f.ended,
+        have: f.have - n,
+        skip: f.skip - n,
+        ..f
     }
 }
 
@@ -102,7 +90,7 @@ fn keep(input: &mut [u8], f: Flow, r: Ran) -> Flow
         have: f.have - r.taken,
         skip: still(f.skip, r.skip),
         lines: r.lines,
-        ended: f.ended,
+        ..f
     }
 }
 
@@ -121,8 +109,7 @@ pub fn take_turn(
     ensures { Turned p places f (lent s.old j.old) (lent s.new j.new) input.old input.new out.old out.new result }
 {
     let g = pass_over(input, f);
-    let have = g.have;
-    let ran = entry::run(s, p, places, j, &input[0..have], g.ended, g.lines, out);
+    let ran = entry::run(s, p, places, j, &input[..g.have], g.ended, g.lines, out);
     let flow = keep(input, g, ran);
     Turn { flow, ran }
 }

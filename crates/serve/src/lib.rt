@@ -14,13 +14,13 @@ ghost use Rattle.serve.specs.Course.{record_most, TakenIn, Rested, Course, Serve
 use flow::Flow;
 use requests::entry::Halt;
 use requests::line;
-use rules::answer::Refusal;
+use rules::answer::{Refusal, Refused};
+use rules::profile;
 use rules::profile::Profile;
-use rules::{answer, profile};
 use sound::{fresh, journal_test};
 use std::fs::File;
 use std::io;
-use std::io::{Read, Seek, SeekFrom, Write};
+use std::io::{Read, Seek, Write};
 
 // How it came to an end.
 #[derive(Clone, Copy)]
@@ -48,46 +48,30 @@ pub struct Report {
     pub missing: usize,
 }
 
-// What came in is at hand, or why it is not.
-#[derive(Clone, Copy)]
-enum Piece {
-    Kept,
-    Lost(End),
-}
-
-// What stands when it came in, and how many bytes that were.
+// What stands when a piece came in, how many bytes that were, and whether the log has them.
 #[derive(Clone, Copy)]
 struct Taken {
     flow: Flow,
     count: usize,
-    piece: Piece,
+    kept: Result<(), End>,
 }
 
-// Behind the bytes at hand more are needed, or it is over.
-#[derive(Clone, Copy)]
-enum Pause {
-    Waiting,
-    Over(End),
-}
-
+// What stands behind the records at hand, how many they were, and how it is over unless more bytes are needed.
 #[derive(Clone, Copy)]
 struct Rest {
     flow: Flow,
     records: u64,
-    pause: Pause,
+    end: Option<End>,
 }
 
 // What can't be appended whole is cut off again, where it began.
 fn append(log: &mut File, piece: &[u8]) -> io::Result<()> {
-    let at = log.seek(SeekFrom::Current(0));
-    let mut kept = log.write_all(piece);
-    if kept.is_ok() {
-        kept = log.sync_data();
-    }
-    if kept.is_err() {
-        if let Ok(end) = at {
-            let _cut = log.set_len(end);
-        }
+    let at = log.stream_position();
+    let kept = log.write_all(piece).and_then(|()| log.sync_data());
+    if kept.is_err()
+        && let Ok(end) = at
+    {
+        let _ = log.set_len(end);
     }
     kept
 }
@@ -116,49 +100,24 @@ fn answer_all<O: Write>(
     requires row_most_in_bounds { row_most ≤ length out.old }
     ensures { Rested p places f (lent s.old j.old) (lent s.new j.new) input.old input.new result }
 {
-    let mut g = f;
+    let mut flow = f;
     let mut records: u64 = 0;
-    loop {
-        let t = flow::take_turn(s, p, places, j, input, out, g);
-        let next = t.flow;
-        let ran = t.ran;
-        g = next;
-        records = records.wrapping_add(ran.count as u64);
-        let n = ran.written;
-        if let Err(e) = to.write_all(&out[0..n]) {
-            return Rest {
-                flow: g,
-                records,
-                pause: Pause::Over(End::Unwritten(e)),
-            };
+    let end = loop {
+        let t = flow::take_turn(s, p, places, j, input, out, flow);
+        flow = t.flow;
+        records = records.wrapping_add(t.ran.count as u64);
+        if let Err(e) = to.write_all(&out[..t.ran.written]) {
+            break Some(End::Unwritten(e));
         }
-        let halt = ran.halt;
-        match halt {
+        match t.ran.halt {
             Halt::Full => {}
-            Halt::Waiting => {
-                return Rest {
-                    flow: g,
-                    records,
-                    pause: Pause::Waiting,
-                };
-            }
-            Halt::Stopped => {
-                return Rest {
-                    flow: g,
-                    records,
-                    pause: Pause::Over(End::Whole),
-                };
-            }
-            // never: both are known to be sound
-            Halt::Unsound => {
-                return Rest {
-                    flow: g,
-                    records,
-                    pause: Pause::Over(End::Unsound),
-                };
-            }
+            Halt::Waiting => break None,
+            Halt::Stopped => break Some(End::Whole),
+            // both are known to be sound
+            Halt::Unsound => unreachable!(),
         }
-    }
+    };
+    Rest { flow, records, end }
 }
 
 fn told(end: End, records: u64, bytes: u64, f: Flow) -> Report
@@ -178,31 +137,22 @@ fn take_in<I: Read>(from: &mut I, log: &mut Option<File>, input: &mut [u8], f: F
     requires { f.have < length input.old }
     ensures { TakenIn f input.old input.new result }
 {
-    let have = f.have;
-    match from.read(&mut input[have..]) {
+    match from.read(&mut input[f.have..]) {
         Err(e) => Taken {
             flow: flow::arrived(f, 0, input),
             count: 0,
-            piece: Piece::Lost(End::Unread(e)),
+            kept: Err(End::Unread(e)),
         },
-        Ok(n) => {
-            let flow = flow::arrived(f, n, input);
-            let end = have + n;
-            let piece = match keep_log(log, &input[have..end]) {
-                Ok(()) => Piece::Kept,
-                Err(e) => Piece::Lost(End::Unlogged(e)),
-            };
-            Taken {
-                flow,
-                count: n,
-                piece,
-            }
-        }
+        Ok(n) => Taken {
+            flow: flow::arrived(f, n, input),
+            count: n,
+            kept: keep_log(log, &input[f.have..f.have + n]).map_err(End::Unlogged),
+        },
     }
 }
 
 // Reads the input on, piece by piece, and answers what is at hand. `last` says that nothing follows the input's end, so that a record cut off there is
-// answered. Nothing says that a file ends, so the reads are counted down from a number that no run uses up.
+// answered. Nothing says that a file ends, so the reads are counted up to a number that no run reaches.
 fn run<I: Read, O: Write>(
     s: &mut [u8],
     p: Profile,
@@ -223,33 +173,21 @@ fn run<I: Read, O: Write>(
     let mut f = flow::start();
     let mut records: u64 = 0;
     let mut bytes: u64 = 0;
-    let mut reads = u64::MAX;
-    while 0 < reads {
+    for _ in 0..u64::MAX {
         let taken = take_in(from, log, input, f);
-        let piece = taken.piece;
-        match piece {
-            Piece::Kept => {}
-            Piece::Lost(end) => {
-                return told(end, records, bytes, f);
-            }
+        if let Err(end) = taken.kept {
+            return told(end, records, bytes, f);
         }
-        let next = taken.flow;
-        if next.ended && !last {
+        if taken.flow.ended && !last {
             return told(End::Whole, records, bytes, f);
         }
         bytes = bytes.wrapping_add(taken.count as u64);
-        let rest = answer_all(s, p, places, j, input, out, to, next);
-        let after = rest.flow;
+        let rest = answer_all(s, p, places, j, input, out, to, taken.flow);
         records = records.wrapping_add(rest.records);
-        let pause = rest.pause;
-        match pause {
-            Pause::Waiting => {}
-            Pause::Over(end) => {
-                return told(end, records, bytes, after);
-            }
+        f = rest.flow;
+        if let Some(end) = rest.end {
+            return told(end, records, bytes, f);
         }
-        f = after;
-        reads -= 1;
     }
     let never = io::Error::from(io::ErrorKind::Other);
     told(End::Unread(never), records, bytes, f)
@@ -269,8 +207,8 @@ fn over<I: Read, O: Write>(
     let mut input = [0u8; 65536];
     let mut out = [0u8; 65536];
     if !journal_test::are_sound(s, j) {
-        let n = line::put_answer(&mut out, answer::refused(Refusal::StoreUnsound, 0));
-        let _written = to.write_all(&out[0..n]);
+        let n = line::put_answer(&mut out, Err(Refused::new(Refusal::StoreUnsound, 0)));
+        let _ = to.write_all(&out[..n]);
         return told(End::Unsound, 0, 0, flow::start());
     }
     let places = fresh::places_of(s, profile::FULL);
@@ -307,7 +245,5 @@ pub fn serve<I: Read, O: Write>(
 pub fn replay<I: Read>(s: &mut [u8], j: &mut [u8], log: &mut I) -> Report
     ensures { Served full (lent s.old j.old) (lent s.new j.new) false result }
 {
-    let mut silent = io::sink();
-    let mut none = None;
-    over(s, j, log, &mut silent, &mut none, false)
+    over(s, j, log, &mut io::sink(), &mut None, false)
 }

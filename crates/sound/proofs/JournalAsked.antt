@@ -4,13 +4,16 @@ use Prim.Native.Nat.{ℕ, ◌+◌, ◌-◌, ◌*◌, ◌≤◌, ◌<◌}
 use native.Mathlib.Nat.{mul-le-mul, suc-mul}
 use native.Mathlib.Numerals.{add-one}
 use native.Mathlib.Omega.{arith}
+use Rattle.std.specs.declared.option.Option.{Option as Found}
+use Rattle.std.specs.declared.option.Option.TheVariants.{None, Some}
+use Rattle.std.specs.Option.{is_some as is_held}
 use mathlib.Core.Path.{◌≡◌, refl, sym, ap, ◌∙◌}
-use mathlib.Core.Bool.{Bool, true, false, not}
-use mathlib.Core.List.{List, []}
-use mathlib.Core.Option.{none, some}
-use lib.ListN.{length, get_or, take, drop}
-use lib.Seq.{drop-drop}
-use borrow.Author.Tests.{eq-eqb, ne_eqb}
+use mathlib.Core.Bool.{Bool, true}
+use mathlib.Core.List.{List, [], ◌∷◌}
+use mathlib.Core.Option.{Option, none, some}
+use lib.Dec.{eqb}
+use lib.ListN.{length, get_or, take, drop, length-drop}
+use lib.Seq.{drop-drop, length-take-le}
 use Rattle.values.specs.Basic.{is_some}
 use Rattle.values.specs.Bytes.{zeros}
 use Rattle.values.specs.Cell.{read_name, is_name_cell, is_cell}
@@ -21,16 +24,15 @@ use Rattle.rules.specs.declared.profile.Profile.{Profile}
 use Rattle.rules.specs.Profile.{row_width, Known}
 use Rattle.rules.specs.State.{Name, Table, is_named, table_named}
 use Rattle.rules.specs.Layout.{unknown}
-use Rattle.rules.specs.Sound.{every}
+use Rattle.rules.specs.Sound.{all}
 use Rattle.rules.specs.Pages.{used_at, event_width, journal_places, right_journal}
-use Rattle.laid.specs.Catalog.{place_of}
+use Rattle.laid.specs.Catalog.{place_of, found_at}
 use Rattle.laid.proofs.Columns.{rest}
 use Rattle.laid.proofs.Finding.{nth-get_or, place_found, place-missing}
 use Rattle.journal.specs.Turn.{page_at}
 use Rattle.sound.specs.Journal.{is_absent, pages_in}
-use Rattle.sound.proofs.Headers.{was-false, was-true, all-fails, all-next, all-ends}
-use Rattle.sound.proofs.Walks.{Asked, Turned, asked-turn, asked-end}
-use Rattle.sound.proofs.JournalVerdict.{used-inside}
+use Rattle.sound.proofs.Walks.{every_next, every_past}
+use Rattle.sound.proofs.JournalVerdict.{used-inside, right-journal, journal_long}
 
 -- ---- numbers that fit
 
@@ -46,67 +48,47 @@ places-fit p k n w e l =
 
 -- ---- a place at whose key nothing stood
 
-module _ (ts : List Table) (r : List ℕ) where
-  pub absent-kind : (get_or r 0 0 ≡ 1 → ⊥) → false ≡ is_absent ts r
-  unfolding is_absent
-  absent-kind h = all-fails _ _ (ne_eqb 1 (get_or r 0 0) (λ e. h (sym e)))
+pub stored_is : (ts : List Table) (n : Name) → is_some (table_named ts n) ≡ is_some (place_of (is_named n) ts)
+stored_is ts n = on (place_of (is_named n) ts) refl
+  where
+    on : (o : Option ℕ) → place_of (is_named n) ts ≡ o → is_some (table_named ts n) ≡ is_some o
+    on none f = ap is_some (place-missing (is_named n) ts f)
+    on (some t) f =
+        let q = place_found (is_named n) ts t f in
+        ap is_some (sym q.1 ∙ nth-get_or ts t (unknown []) q.0)
 
-  module _ (o : get_or r 0 0 ≡ 1) {a : Bool} (ea : a ≡ is_name_cell (take 25 (drop 1 r))) where
-    pub absent-name : not a ≡ true → false ≡ is_absent ts r
-    unfolding is_absent
-    absent-name h = all-next _ _ (eq-eqb 1 (get_or r 0 0) (sym o)) (all-fails _ _ (was-false ea h))
+-- with the slices that the code takes
+pub absent_is : (ts : List Table) (r : List ℕ) (o : Bool) → o ≡ is_some (place_of (is_named (read_name (take (length r - 1) (drop 1 r)))) ts) → is_absent ts r
+    ≡ all (eqb 1 (get_or r 0 0) ∷ is_name_cell (take 25 (drop 1 r)) ∷ is_cell (take 26 (drop 26 r)) ∷ zeros (take (length r - 52) (drop 52 r)) ∷ o ∷ [])
+unfolding is_absent
+absent_is ts r o e = rw (rest 52 r, e, rest 1 r, stored_is ts (read_name (drop 1 r))) refl
 
-    module _ (ha : not a ≡ false) {b : Bool} (eb : b ≡ is_cell (take 26 (drop 26 r))) where
-      pub absent-cell : not b ≡ true → false ≡ is_absent ts r
-      unfolding is_absent
-      absent-cell h = all-next _ _ (eq-eqb 1 (get_or r 0 0) (sym o)) (all-next _ _ (was-true ea ha) (all-fails _ _ (was-false eb h)))
-
-      module _ (hb : not b ≡ false) {c : Bool} (ec : c ≡ zeros (take (length r - 52) (drop 52 r))) where
-        zeros-is : c ≡ zeros (drop 52 r)
-        zeros-is = ec ∙ ap zeros (rest 52 r)
-
-        pub absent-zeros : not c ≡ true → false ≡ is_absent ts r
-        unfolding is_absent
-        absent-zeros h =
-            all-next _ _ (eq-eqb 1 (get_or r 0 0) (sym o)) (all-next _ _ (was-true ea ha) (all-next _ _ (was-true eb hb) (all-fails _ _ (was-false zeros-is h))))
-
-        module _ (hc : not c ≡ false) {n : Name} (en : n ≡ read_name (take (length r - 1) (drop 1 r))) where
-          name-is : n ≡ read_name (drop 1 r)
-          name-is = en ∙ ap read_name (rest 1 r)
-
-          by-table : {d : Bool} → d ≡ is_some (table_named ts n) → d ≡ is_absent ts r
-          unfolding is_absent
-          by-table e =
-              e ∙ ap (λ (m : Name). is_some (table_named ts m)) name-is
-              ∙ all-next _ _ (eq-eqb 1 (get_or r 0 0) (sym o)) (all-next _ _ (was-true ea ha) (all-next _ _ (was-true eb hb) (all-next _ _ (was-true zeros-is hc) (all-ends _))))
-
-          pub absent-nowhere : none ≡ place_of (is_named n) ts → false ≡ is_absent ts r
-          absent-nowhere f = by-table (sym (ap is_some (place-missing (is_named n) ts (sym f))))
-
-          pub absent-stored : {t : ℕ} → some t ≡ place_of (is_named n) ts → true ≡ is_absent ts r
-          absent-stored {t} f =
-              let q = place_found (is_named n) ts t (sym f) in
-              by-table (sym (ap is_some (sym q.1 ∙ nth-get_or ts t (unknown []) q.0)))
+-- what a search by name found
+pub found_some : (f : Found ℕ) (o : Option ℕ) → found_at f ≡ o → is_held f ≡ is_some o
+found_some None o e = ap is_some e
+found_some (Some i) o e = ap is_some e
 
 -- ---- one place after the other
 
-module _ (p : Profile) (j : List ℕ) (n : ℕ) (en : n ≡ count_at used_at 2 j) where
-  pages-many : length (pages_in p j) ≡ n
+module _ (p : Profile) (j : List ℕ) where
+  pub pages_many : length (pages_in p j) ≡ count_at used_at 2 j
   unfolding pages_in
-  pages-many = length-records (event_width p) (count_at used_at 2 j) (drop 3 j) ∙ sym en
+  pages_many = length-records (event_width p) (count_at used_at 2 j) (drop 3 j)
 
-  page-at : (i : ℕ) → i < n → get_or (pages_in p j) i [] ≡ page_at p j i
-  unfolding pages_in page_at record_at
-  page-at i h =
-      get_or-records (event_width p) (count_at used_at 2 j) i (drop 3 j) (omega (arith, en)) ∙ ap (take (event_width p)) (drop-drop (i * event_width p) 3 j)
+  module _ (i : ℕ) (h : i < count_at used_at 2 j) where
+    pub page_is : get_or (pages_in p j) i [] ≡ page_at p j i
+    unfolding pages_in page_at record_at
+    page_is = get_or-records (event_width p) (count_at used_at 2 j) i (drop 3 j) h ∙ ap (take (event_width p)) (drop-drop (i * event_width p) 3 j)
 
-  pub page-inside : right_journal p j ≡ true → count_at used_at 2 j ≤ journal_places p j → (i : ℕ) → i < n → 3 + i * event_width p + event_width p ≤ length j
-  page-inside h l i k =
-      let e : (i + 1) * event_width p ≡ i * event_width p + event_width p = ap (λ (m : ℕ). m * event_width p) (add-one i) ∙ suc-mul i (event_width p) in
-      omega (arith, used-inside p j (i + 1) (event_width p) refl h (omega (arith, en)), e)
+    pub page_inside : right_journal p j ≡ true → count_at used_at 2 j ≤ journal_places p j → 3 + i * event_width p + event_width p ≤ length j
+    page_inside r l =
+        let e : (i + 1) * event_width p ≡ i * event_width p + event_width p = ap (λ (m : ℕ). m * event_width p) (add-one i) ∙ suc-mul i (event_width p) in
+        omega (arith, used-inside p j (i + 1) (event_width p) refl r (omega arith), e)
 
-  pub page-turn : (f : List ℕ → Bool) (i : ℕ) {b : Bool} {r : List ℕ} → Asked f (pages_in p j) i → i < n → r ≡ page_at p j i → b ≡ f r → Turned f (pages_in p j) i b
-  page-turn f i {b} k h e q = asked-turn f (pages_in p j) [] i b k (omega (arith, pages-many)) (q ∙ ap f (e ∙ sym (page-at i h)))
+    pub page_wide : right_journal p j ≡ true → count_at used_at 2 j ≤ journal_places p j → length (page_at p j i) ≡ event_width p
+    unfolding page_at record_at
+    page_wide r l = length-take-le (event_width p) (drop (3 + i * event_width p) j) (simp length-drop (omega (arith, page_inside r l)))
 
-  pub page-end : (f : List ℕ → Bool) (i : ℕ) → Asked f (pages_in p j) i → n ≤ i → true ≡ every f (pages_in p j)
-  page-end f i k h = asked-end f (pages_in p j) i k (omega (arith, pages-many))
+pub ruleset pages = (journal_long, pages_many, page_is, page_wide, every_next, every_past)
+
+pub ruleset header = (rest, journal_long)

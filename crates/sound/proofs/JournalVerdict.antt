@@ -3,11 +3,11 @@ use Prim.Native.Nat.{ℕ, ◌+◌, ◌-◌, ◌*◌, ◌≤◌, ◌<◌}
 use native.Mathlib.Nat.{zero-div, mul-le-mul, le_refl}
 use native.Mathlib.Omega.{arith}
 use mathlib.Core.Path.{◌≡◌, refl, sym, ap, ◌∙◌, subst}
-use mathlib.Core.Bool.{Bool, true, false, not, ◌&&◌}
+use mathlib.Core.Bool.{Bool, true, false, ◌&&◌}
 use mathlib.Core.List.{List, [], ◌∷◌, map}
 use lib.Dec.{eqb, leb}
-use lib.ListN.{length, get_or, take, drop}
-use borrow.Author.Tests.{leb-true, eqb-true, le-leb, lt-leb, eq-eqb, ne_eqb}
+use lib.ListN.{length, get_or, drop}
+use borrow.Author.Tests.{leb-true, eqb-true}
 use Rattle.values.specs.Basic.{maybe}
 use Rattle.values.specs.Bytes.{leqb, zeros, Bytes}
 use Rattle.values.proofs.Scans.{leqb-eq}
@@ -27,14 +27,12 @@ use Rattle.rules.proofs.Valid.{valid-of}
 use Rattle.rules.proofs.Removed.{with_rows}
 use Rattle.rules.proofs.Whole.{places-image, sound-image, sound-is}
 use Rattle.laid.specs.Store.{Coded, LaidStore, Store}
-use Rattle.laid.proofs.Columns.{rest}
 use Rattle.laid.proofs.Stores.{held-state, laid-store, store-valid, store-catalog}
 use Rattle.journal.specs.Page.{Paging}
 use Rattle.journal.specs.Turn.{events_in, Batch}
-use Rattle.journal.specs.Back.{rows_of, events_of, Halfway, Unwinds, Rewindable, Rewinds}
+use Rattle.journal.specs.Back.{rows_of, events_of, Halfway, Unwinds, Rewinds}
 use Rattle.sound.specs.Tested.{Schemed}
 use Rattle.sound.specs.Journal.{journal_laid, is_event, pages_in, taken_back, sound_journal}
-use Rattle.sound.proofs.Headers.{was-false, was-true, all-fails, all-next, all-ends}
 use Rattle.sound.proofs.Pieces.{zeros-piece}
 use Rattle.sound.proofs.RecordPieces.{every-both}
 use Rattle.sound.proofs.PlacePieces.{places-many, journal-piece}
@@ -42,24 +40,11 @@ use Rattle.sound.proofs.PlacePieces.{places-many, journal-piece}
 -- ---- the length
 
 module _ (p : Profile) (j : List ℕ) where
-  pub no_header : length j < 3 → false ≡ right_journal p j
-  unfolding right_journal journal_places all
+  pub no_header : length j < 3 → journal_places p j ≡ 0
+  unfolding journal_places
   no_header h =
       let z : length j - 3 ≡ 0 = omega arith in
       rw (z, zero-div)
-
-  module _ (J : ℕ) (e : J ≡ journal_places p j) where
-    pub no-places : J < 1 → false ≡ right_journal p j
-    unfolding right_journal all
-    no-places h = rw (← e) (simp (lt-leb 1 J h))
-
-    pub many-places : 8192 < J → 1 ≤ J → false ≡ right_journal p j
-    unfolding right_journal all
-    many-places h l = rw (← e) (simp (le-leb 1 J l, lt-leb J 8192 h))
-
-    pub by-journal : (w : ℕ) → w ≡ event_width p → 1 ≤ J → J ≤ 8192 → eqb (length j) (3 + J * w) ≡ right_journal p j
-    unfolding right_journal all journal_length
-    by-journal w f l m = rw (← e, f, le-leb 1 J l, le-leb J 8192 m) (all-ends (eqb (length j) (3 + J * event_width p)))
 
   pub record RightJournal : Type 0 where
     pub least : 1 ≤ journal_places p j
@@ -72,29 +57,15 @@ module _ (p : Profile) (j : List ℕ) where
       let h1 = all_tail _ _ h in
       record { least = leb-true _ _ (all_head _ _ h); most = leb-true _ _ (all_head _ _ h1); long = eqb-true _ _ (all_head _ _ (all_tail _ _ h1)) }
 
+  -- the same, for a check that knows no more than that the length is right
+  pub journal_long : right_journal p j ≡ true → (right_journal p j ≡ true) × (length j ≡ 3 + journal_places p j * event_width p)
+  journal_long h = (h, (right-journal h).long)
+
   -- so many places lie inside
   pub used-inside : (n w : ℕ) → w ≡ event_width p → right_journal p j ≡ true → n ≤ journal_places p j → 3 + n * w ≤ length j
   used-inside n w e h l =
       let q : n * w ≤ journal_places p j * w = mul-le-mul l (le_refl w) in
       omega (arith, (right-journal h).long, ap (λ (x : ℕ). journal_places p j * x) e)
-
-  -- ---- the header, and zeros behind the places in use
-
-  pub laid-closed : (get_or j 0 0 ≡ 1 → ⊥) → false ≡ journal_laid p j
-  unfolding journal_laid
-  laid-closed h = all-fails _ _ (ne_eqb 1 (get_or j 0 0) (λ e. h (sym e)))
-
-  module _ (o : get_or j 0 0 ≡ 1) (n J : ℕ) (en : n ≡ count_at used_at 2 j) (eJ : J ≡ journal_places p j) where
-    pub laid-many : J < n → false ≡ journal_laid p j
-    unfolding journal_laid
-    laid-many h = all-next _ _ (eq-eqb 1 (get_or j 0 0) (sym o)) (all-fails _ _ (lt-leb (count_at used_at 2 j) (journal_places p j) (omega (arith, en, eJ))))
-
-    pub laid-zeros : n ≤ J → (w : ℕ) → w ≡ event_width p → (b : Bool) → b ≡ zeros (take (length j - (3 + n * w)) (drop (3 + n * w) j)) → b ≡ journal_laid p j
-    unfolding journal_laid
-    laid-zeros h w ew b e =
-        e ∙ ap zeros (rest (3 + n * w) j) ∙ rw (ew, en)
-        (all-next _ _ (eq-eqb 1 (get_or j 0 0) (sym o))
-        (all-next _ _ (le-leb (count_at used_at 2 j) (journal_places p j) (omega (arith, en, eJ))) (all-ends _)))
 
   -- then the places in use are no more than there are
   pub laid-few : journal_laid p j ≡ true → count_at used_at 2 j ≤ journal_places p j
@@ -132,17 +103,16 @@ none-fit true false z g r v x y = refl
 none-fit false true z g r v x y = refl
 none-fit false false z g r v x y = refl
 
-pub wrong-journal : (p : Profile) (R : ℕ) (s j : List ℕ) → right_journal p j ≡ false → false ≡ sound_journal p R s j
-unfolding sound_journal
-wrong-journal p R s j h = all-fails _ _ h
+pub wrong_journal : (p : Profile) (R : ℕ) (s j : List ℕ) → right_journal p j ≡ false → sound_journal p R s j ≡ false
+unfolding sound_journal all
+wrong_journal p R s j h = rw h
 
 -- no batch is open
-pub closed-verdict : (p : Profile) (R : ℕ) (s j : List ℕ) → right_journal p j ≡ true → eqb (get_or j 0 0) 0 ≡ true → zeros j ≡ sound_journal p R s j
+pub closed_verdict : (p : Profile) (R : ℕ) (s j : List ℕ) → right_journal p j ≡ true → eqb (get_or j 0 0) 0 ≡ true → sound_journal p R s j ≡ zeros j
 unfolding sound_journal backed journal_image parse_journal maybe journal_length
-closed-verdict p R s j h o =
-    sym
-    (rw (h, o)
-    (ap (λ (b : Bool). all (true ∷ b ∷ true ∷ [])) (zeros-piece (3 + journal_places p j * event_width p) j (right-journal p j h).long) ∙ middle (zeros j)))
+closed_verdict p R s j h o =
+    rw (h, o)
+    (ap (λ (b : Bool). all (true ∷ b ∷ true ∷ [])) (zeros-piece (3 + journal_places p j * event_width p) j (right-journal p j h).long) ∙ middle (zeros j))
 
 module _ {p : Profile} {R : ℕ} {s : List ℕ} (b : Store p R s) where
   pub store-schemed : Schemed p R s
@@ -180,9 +150,9 @@ module _ {p : Profile} {R : ℕ} {s : List ℕ} (b : Store p R s) where
     unfolding sound_journal backed journal_image parse_journal pages_in maybe
     opened = rw (h, o) (first_two _ _)
 
-    pub open-verdict : sound_journal p R s j ≡ all (journal_laid p j ∷ every (is_event p (parse p R s).tables) (pages_in p j) ∷ taken_back p R s j ∷ [])
+    pub open_verdict : sound_journal p R s j ≡ all (journal_laid p j ∷ every (is_event p (parse p R s).tables) (pages_in p j) ∷ taken_back p R s j ∷ [])
     unfolding journal_laid is_event taken_back events_in pages_in
-    open-verdict = opened ∙ go (leb (count_at used_at 2 j) J) refl
+    open_verdict = opened ∙ go (leb (count_at used_at 2 j) J) refl
       where
         go : (q : Bool) → leb (count_at used_at 2 j) J ≡ q
             → (leqb (open_image p J es) j
@@ -220,16 +190,6 @@ module _ {p : Profile} {R : ℕ} {s : List ℕ} (b : Store p R s) where
           bytes = sym (leqb-eq (open_image p J es) j (piece few ∙ rw (first, whole, last)));
         }
 
-    pub not-laid : {a : Bool} → a ≡ journal_laid p j → not a ≡ true → false ≡ sound_journal p R s j
-    not-laid e f = all-fails _ _ (was-false e f) ∙ sym open-verdict
-
-    module _ {a : Bool} (ea : a ≡ journal_laid p j) (ha : not a ≡ false) {c : Bool} (ec : c ≡ every (is_event p (parse p R s).tables) (pages_in p j)) where
-      pub not-events : not c ≡ true → false ≡ sound_journal p R s j
-      not-events f = all-next _ _ (was-true ea ha) (all-fails _ _ (was-false ec f)) ∙ sym open-verdict
-
-      pub by-taking-back : not c ≡ false → (d : Bool) → d ≡ taken_back p R s j → d ≡ sound_journal p R s j
-      by-taking-back f d e = e ∙ all-next _ _ (was-true ea ha) (all-next _ _ (was-true ec f) (all-ends _)) ∙ sym open-verdict
-
 -- ---- taken back, tested and put forth again
 
 -- bytes that are laid out are sound just where what they hold is valid
@@ -253,32 +213,23 @@ module _ {p : Profile} {R : ℕ} {s j : List ℕ} {i : ℕ} {s₁ j₁ : List �
           rw (u.all, h) (laid-sound p R s₁ m.batch.store l ∙ ap (valid p R) m.state)
       go false h = rw (u.all, h)
 
-  pub rewindable : Rewindable p R s₁ j₁ i
-  rewindable = record { store = s; journal = j; half = u.half }
-
   pub restored : {s₂ j₂ : List ℕ} → Rewinds p R s₁ j₁ i s₂ j₂ → (s₂ ≡ s) × (j₂ ≡ j)
   restored r = r.forth s j u.half
-
-pub not-all : (i : ℕ) (q : Bool) → 0 < i → false ≡ (eqb i 0 && q)
-not-all i q h = rw (ne_eqb i 0 (λ e. omega (arith, h, e)))
-
-pub all-taken : (i : ℕ) {w q : Bool} → i ≤ 0 → w ≡ q → w ≡ (eqb i 0 && q)
-all-taken i h e = let z : i ≡ 0 = omega arith in e ∙ rw z
 
 -- ---- both buffers
 
 module _ (p : Profile) (s j : List ℕ) where
-  pub unsound-books : {a : Bool} → a ≡ sound p s → not a ≡ true → false ≡ sound_books p s j
-  unfolding sound_books
-  unsound-books e h = all-fails _ _ (was-false e h)
+  pub unsound_books : sound p s ≡ false → sound_books p s j ≡ false
+  unfolding sound_books all
+  unsound_books h = rw h
 
-  pub sound-both : {a : Bool} → a ≡ sound p s → not a ≡ false → (R : ℕ) → R ≡ places_of p s → {w : Bool} → w ≡ sound_journal p R s j → w ≡ sound_books p s j
-  unfolding sound_books sound_journal
-  sound-both e h R f g = all-next _ _ (was-true e h) (g ∙ rw f)
+  pub sound_both : sound p s ≡ true → (R : ℕ) → R ≡ places_of p s → sound_books p s j ≡ sound_journal p R s j
+  unfolding sound_books sound_journal all
+  sound_both h R f = rw (h, f) refl
 
-  pub sound-store : Coded p → Indexed p → {a : Bool} → a ≡ sound p s → not a ≡ false → (R : ℕ) → R ≡ places_of p s → Store p R s
-  sound-store k i e h R f =
-      let x = sound-is p s (was-true e h) in
+  pub sound-store : Coded p → Indexed p → sound p s ≡ true → (R : ℕ) → R ≡ places_of p s → Store p R s
+  sound-store k i h R f =
+      let x = sound-is p s h in
       rw f
       (record {
         coded = k;
@@ -288,3 +239,5 @@ module _ (p : Profile) (s j : List ℕ) where
         valid = valid-of p (places_of p s) (parse p (places_of p s) s) x.valid;
         bytes = sym x.laid;
       })
+
+pub ruleset lengths = (no_header, journal_long)

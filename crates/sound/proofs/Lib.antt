@@ -1,4 +1,3 @@
-pub mod AreaWalks
 pub mod Asking
 pub mod Headers
 pub mod Indexed

@@ -34,6 +34,8 @@ use Rattle.rules.proofs.Paged.{nothing, event-long}
 use Rattle.laid.specs.Store.{Coded}
 use Rattle.sound.specs.Tested.{is_row}
 use Rattle.sound.specs.Journal.{is_event, is_absent, pages_in}
+use Rattle.laid.proofs.Columns.{rest, rest-length}
+use Rattle.sound.proofs.Walks.{row_is}
 use Rattle.sound.proofs.Pieces.{leqb-append, leqb-cons, zeros-piece, name-piece, value-piece, name-long, value-long, good-read-name, canonical-read, joined-long, joined-piece}
 use Rattle.sound.proofs.RecordPieces.{and_same}
 use Rattle.sound.proofs.RowPieces.{row-name, cells-long, cells-canonical}
@@ -95,6 +97,20 @@ module _ (p : Profile) (ts : List Table) (k : Coded p) (r : List ℕ) (b : Bytes
       (leqb-append (name_cell n) tail (drop 1 r) 25 (name-long (drop 1 r)) (omega (arith, rest))
       ∙ and_same (name-piece (drop 1 r)) (ap (leqb tail) (drop-drop 25 1 r) ∙ key-piece)))
       ∙ place-tests (eqb 1 (get_or r 0 0)) (is_name_cell (take 25 (drop 1 r))) (is_cell (take 26 (drop 26 r))) (zeros (drop 52 r)) (is_some (table_named ts n)))
+
+-- a row stood there, or nothing did
+pub event_is : (p : Profile) (ts : List Table) (r : List ℕ) → Coded p → Bytes r → length r ≡ event_width p → is_event p ts r ≡ cond (eqb (get_or r 0 0) 2) (is_row p ts (drop 1 r)) (is_absent ts r)
+event_is p ts r k b l = on (eqb (get_or r 0 0) 2) refl
+  where
+    on : (q : Bool) → eqb (get_or r 0 0) 2 ≡ q → is_event p ts r ≡ cond q (is_row p ts (drop 1 r)) (is_absent ts r)
+    on true e = event-row p ts k r b l e
+    on false e = event-absent p ts k r b l e
+
+pub wide_is : (p : Profile) → p.cell ≡ 26 → event_width p ≡ 26 + p.columns * 26
+unfolding event_width row_width
+wide_is p e = rw e (omega arith)
+
+pub ruleset places = (event_is, wide_is, row_is, rest, rest-length)
 
 -- ---- an open journal
 

@@ -131,8 +131,8 @@ module _ (p : Profile) (R : ℕ) (s : List ℕ) (d : Tabled p R s) where
         rows-searched = searched ord_row p R s ins Rows (read_row p tables) (keyed m v) (λ r. cmp_keyed at r m v) keyed-same srt from w n ef ew en
 
         module _ (i : ℕ) (ei : i ≡ count_of (λ r. is_lt (cmp_keyed at r m v)) (records w n (take (length s - from) (drop from s)))) where
-          pub row-past : n ≤ i → false ≡ has_row rows m v
-          row-past l = sym (has-is ∙ ap (holds cmp_row (keyed m v)) (rows-read p R s) ∙ place-past ord_row p R s ins Rows (read_row p tables) (keyed m v) (λ r. cmp_keyed at r m v) keyed-same srt from w n ef ew en i ei l)
+          pub row_past : n ≤ i → has_row rows m v ≡ false
+          row_past l = (has-is ∙ ap (holds cmp_row (keyed m v)) (rows-read p R s) ∙ place-past ord_row p R s ins Rows (read_row p tables) (keyed m v) (λ r. cmp_keyed at r m v) keyed-same srt from w n ef ew en i ei l)
 
-          pub row_here : i < n → (r : List ℕ) → r ≡ get_or (lists p R s).rows i [] → (o : Ordering) → o ≡ cmp_keyed at r m v → compare_is_eq o ≡ has_row rows m v
-          row_here l r er o eo = sym (has-is ∙ ap (holds cmp_row (keyed m v)) (rows-read p R s) ∙ place_here ord_row p R s ins Rows (read_row p tables) (keyed m v) (λ r. cmp_keyed at r m v) keyed-same srt from w n ef ew en i ei l r er o eo)
+          pub row_here : i < n → (r : List ℕ) → r ≡ get_or (lists p R s).rows i [] → (o : Ordering) → o ≡ cmp_keyed at r m v → has_row rows m v ≡ compare_is_eq o
+          row_here l r er o eo = (has-is ∙ ap (holds cmp_row (keyed m v)) (rows-read p R s) ∙ place_here ord_row p R s ins Rows (read_row p tables) (keyed m v) (λ r. cmp_keyed at r m v) keyed-same srt from w n ef ew en i ei l r er o eo)

@@ -51,9 +51,9 @@ module _ (p : Profile) (k : Coded p) (r : List ℕ) (b : Bytes r) (l : length r 
   unfolding entry_width
   entry-long = omega (arith, l, k.cells)
 
-  pub entry-pieces : is_entry p r ≡ all (is_name_cell (take 25 r) ∷ is_cell (take 26 (drop 26 r)) ∷ is_cell (take 26 (drop 52 r)) ∷ [])
+  pub entry_pieces : is_entry p r ≡ all (is_name_cell (take 25 r) ∷ is_cell (take 26 (drop 26 r)) ∷ is_cell (take 26 (drop 52 r)) ∷ [])
   unfolding is_entry entry_record read_entry
-  entry-pieces =
+  entry_pieces =
       let n = entry-long in
       let v = read_value (drop 26 r) in
       let u = read_value (drop 52 r) in
@@ -218,7 +218,7 @@ module _ (p : Profile) (k : Coded p) where
         ∙ and_same (ap (eqb f) (get_or-drop 26 c 0 0) ∙ flags-piece p c)
         (ap (leqb (v ++ u)) (drop-drop 1 26 c) ∙ last n)))
 
-    pub column-pieces : length c ≡ column_width p → is_column p c
+    pub column_pieces : length c ≡ column_width p → is_column p c
         ≡ all
         (is_name_cell (take 25 c)
         ∷ leb (get_or c 26 0) 31
@@ -228,7 +228,7 @@ module _ (p : Profile) (k : Coded p) where
         ∷ leb (get_or c 25 0) 4
         ∷ [])
     unfolding is_column
-    column-pieces l =
+    column_pieces l =
         let n : length c ≡ 78 = l ∙ column-width in
         and_same (record-piece n) good-piece
         ∙ column-tests (is_name_cell (take 25 c)) (leb (get_or c 26 0) 31) (cond (bit 2 (get_or c 26 0)) (is_cell (take 26 (drop 27 c))) (zeros (take 26 (drop 27 c))))
@@ -310,9 +310,9 @@ module _ (p : Profile) (k : Coded p) (r : List ℕ) (b : Bytes r) (l : length r 
       ∙ and_same (eq-eqb (length (map (read_column p) cols)) (get_or (drop 26 r) 0 0) (cols-length ∙ sym (get_or-drop 26 r 0 0)))
       (ap (leqb tail) (drop-drop 1 26 r) ∙ pad-piece h)))
 
-  pub table-pieces : is_table p r ≡ all (is_name_cell (take 25 r) ∷ leb count p.columns ∷ every (is_column p) cols ∷ zeros (drop (27 + count * column_width p) r) ∷ [])
+  pub table_pieces : is_table p r ≡ all (is_name_cell (take 25 r) ∷ leb count p.columns ∷ every (is_column p) cols ∷ zeros (drop (27 + count * column_width p) r) ∷ [])
   unfolding is_table is_column
-  table-pieces = on (leb count p.columns) refl
+  table_pieces = on (leb count p.columns) refl
     where
       on : (o : Bool) → leb count p.columns ≡ o → is_table p r ≡ all (is_name_cell (take 25 r) ∷ o ∷ every (is_column p) cols ∷ zeros (drop (27 + count * column_width p) r) ∷ [])
       on true e =

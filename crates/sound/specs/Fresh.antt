@@ -2,8 +2,8 @@
 -- Assumes nothing.
 use Rattle.std.specs.Prelude.{◌≡◌, cond, ℕ, List}
 use Rattle.rules.specs.declared.profile.Profile.{Profile}
-use Rattle.rules.specs.declared.answer.Answer.{Answer}
-use Rattle.rules.specs.declared.answer.Refusal.TheVariants.{StoreUnsound}
+use Rattle.rules.specs.Request.{Answer}
+use Rattle.rules.specs.Refusal.{StoreUnsound}
 use Rattle.rules.specs.State.{empty}
 use Rattle.rules.specs.Layout.{image, places_of}
 use Rattle.rules.specs.Request.{said, ok, no}

@@ -14,7 +14,6 @@ ghost use Rattle.sound.specs.Journal.{journal_laid, is_event, is_absent, pages_i
 use super::{fresh, row_test, soundness};
 use journal::{back, page, turn};
 use laid::catalog;
-use laid::catalog::Found;
 use rules::profile;
 use rules::profile::Profile;
 use values::{bytes, cell};
@@ -23,6 +22,7 @@ use values::{bytes, cell};
 const PLACES_MOST: usize = 8192;
 
 // 1 to 8,192 places, and the exact length.
+#[tactic(auto, using(crate::proofs::JournalVerdict::lengths), unfolding(rules::specs::Pages::right_journal, rules::specs::Pages::journal_length, rules::specs::Sound::all))]
 fn right_journal(j: &[u8], p: Profile) -> bool
     requires { Known p }
     ensures { result ≡ right_journal p j.now }
@@ -31,25 +31,18 @@ fn right_journal(j: &[u8], p: Profile) -> bool
         return false;
     }
     let places = page::places_of(j, p);
-    if places < 1 {
-        return false;
-    }
-    if PLACES_MOST < places {
-        return false;
-    }
-    j.len() == page::HEADER_WIDTH + places * page::event_width(p)
+    (1..=PLACES_MOST).contains(&places)
+        && j.len() == page::HEADER_WIDTH + places * page::event_width(p)
 }
 
 // The header of an open journal is right, and what is unused is zero.
+#[tactic(auto, using(crate::proofs::JournalAsked::header), unfolding(crate::specs::Journal::journal_laid, rules::specs::Sound::all))]
 fn is_journal_laid(j: &[u8], p: Profile) -> bool
     requires { Known p × (right_journal p j.now ≡ true) }
     ensures { result ≡ journal_laid p j.now }
 {
-    if j[0] != 1 {
-        return false;
-    }
     let count = page::used(j);
-    if page::places_of(j, p) < count {
+    if j[0] != 1 || page::places_of(j, p) < count {
         return false;
     }
     let used = page::HEADER_WIDTH + count * page::event_width(p);
@@ -61,48 +54,36 @@ fn is_absent(s: &[u8], p: Profile, places: usize, rec: &[u8]) -> bool
     requires { Schemed p places s.now × (52 ≤ length rec.now) }
     ensures { result ≡ is_absent (parse p places s.now).tables rec.now }
 {
-    if rec[0] != page::NOTHING {
-        return false;
-    }
-    if !cell::is_name_cell(&rec[page::PLACE_NAME..page::PLACE_KEY]) {
-        return false;
-    }
-    if !cell::is_cell(&rec[page::PLACE_KEY..page::KEY_END]) {
-        return false;
-    }
-    if !bytes::all_zero(&rec[page::KEY_END..]) {
-        return false;
-    }
-    let name = cell::read_name(&rec[page::PLACE_NAME..]);
-    match catalog::get_table(s, p, places, name) {
-        Found::At(_) => true,
-        Found::Nothing => false,
-    }
+    rec[0] == page::NOTHING
+        && cell::is_name_cell(&rec[page::PLACE_NAME..page::PLACE_KEY])
+        && cell::is_cell(&rec[page::PLACE_KEY..page::KEY_END])
+        && bytes::all_zero(&rec[page::KEY_END..])
+        && catalog::get_table(s, p, places, cell::read_name(&rec[page::PLACE_NAME..])).is_some()
 }
 
 // Whether the bytes are a place's, of a stored table.
+#[tactic(auto, using(crate::proofs::PlacePieces::places))]
 fn is_event(s: &[u8], p: Profile, places: usize, rec: &[u8]) -> bool
     requires { Schemed p places s.now × (length rec.now ≡ event_width p) }
     ensures { result ≡ is_event p (parse p places s.now).tables rec.now }
 {
     if rec[0] == page::A_ROW {
-        return row_test::is_row(s, p, places, &rec[page::PLACE_NAME..]);
+        row_test::is_row(s, p, places, &rec[page::PLACE_NAME..])
+    } else {
+        is_absent(s, p, places, rec)
     }
-    is_absent(s, p, places, rec)
 }
 
 // Whether every place in use is one.
+#[tactic(auto, using(crate::proofs::JournalAsked::pages))]
 fn are_events(s: &[u8], p: Profile, places: usize, j: &[u8]) -> bool
     requires { Schemed p places s.now × (right_journal p j.now ≡ true) × (count_at used_at 2 j.now ≤ journal_places p j.now) }
     ensures { result ≡ every (is_event p (parse p places s.now).tables) (pages_in p j.now) }
 {
-    let count = page::used(j);
-    let mut i = 0;
-    while i < count {
+    for i in 0..page::used(j) {
         if !is_event(s, p, places, turn::place_at(j, p, i)) {
             return false;
         }
-        i += 1;
     }
     true
 }
@@ -112,10 +93,7 @@ fn is_well(s: &[u8], p: Profile, i: usize) -> bool
     requires { Coded p × Indexed p }
     ensures { result ≡ (eqb i 0 && sound p s.now) }
 {
-    if 0 < i {
-        return false;
-    }
-    soundness::is_sound_of(s, p)
+    i == 0 && soundness::is_sound_of(s, p)
 }
 
 // Whether the open batch can be taken back to a sound store. Every byte is as it was.
@@ -140,13 +118,7 @@ pub fn is_sound_journal(s: &mut [u8], p: Profile, places: usize, j: &mut [u8]) -
     if !page::is_open(j) {
         return bytes::all_zero(j);
     }
-    if !is_journal_laid(j, p) {
-        return false;
-    }
-    if !are_events(s, p, places, j) {
-        return false;
-    }
-    is_backed(s, p, places, j)
+    is_journal_laid(j, p) && are_events(s, p, places, j) && is_backed(s, p, places, j)
 }
 
 // Whether both buffers are a sound store of document 01 and its journal. Every byte is as it was.

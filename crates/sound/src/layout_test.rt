@@ -12,64 +12,54 @@ use rules::profile::Profile;
 use values::bytes;
 
 // The length and the version are told, and the counts are within their areas.
+#[tactic(auto, using(crate::proofs::Headers::header), unfolding(crate::specs::Tested::headed, areas::specs::Counted::count_at, rules::specs::Sound::all))]
 fn is_headed(s: &[u8], p: Profile, places: usize) -> bool
     requires { Coded p × (places ≤ places_most) × (length s.now ≡ store_length p places) }
     ensures { result ≡ headed p places s.now }
 {
-    if area::count_at(s, 0, layout::LENGTH_BYTES) != layout::store_length(p, places) {
-        return false;
-    }
-    if s[layout::VERSION] != p.version {
-        return false;
-    }
-    if p.tables < layout::table_count(s) {
-        return false;
-    }
-    if places < layout::row_count(s) {
-        return false;
-    }
-    layout::entry_count(s) <= p.entries * places
+    area::count_at(s, 0, layout::LENGTH_BYTES) == layout::store_length(p, places)
+        && s[layout::VERSION] == p.version
+        && layout::table_count(s) <= p.tables
+        && layout::row_count(s) <= places
+        && layout::entry_count(s) <= p.entries * places
 }
 
 // The bytes of an area behind its `count` records are zero.
+#[tactic(auto, using(crate::proofs::Headers::part_rest), unfolding(values::specs::Area::part))]
 fn is_spare(s: &[u8], from: usize, width: usize, places: usize, count: usize) -> bool
     requires { (count ≤ places) × (from + places * width ≤ length s.now) }
     ensures { result ≡ zeros (drop (count * width) (part from (from + places * width) s.now)) }
 {
-    let to = from + places * width;
-    let area = &s[from..to];
-    let used = count * width;
-    bytes::all_zero(&area[used..])
+    let area = &s[from..from + places * width];
+    bytes::all_zero(&area[count * width..])
 }
 
 // The header is right, and what is unused is zero.
+#[tactic(auto, using(crate::proofs::Headers::spares), unfolding(crate::specs::Tested::laid_out, crate::specs::Tested::headed, rules::specs::Sound::all))]
 pub fn is_laid_out(s: &[u8], p: Profile, places: usize) -> bool
     requires { Coded p × (places ≤ places_most) × (length s.now ≡ store_length p places) }
     ensures { result ≡ laid_out p places s.now }
 {
-    if !is_headed(s, p, places) {
-        return false;
-    }
-    let tables = layout::table_count(s);
-    if !is_spare(
-        s,
-        layout::HEADER_WIDTH,
-        layout::schema_width(p),
-        p.tables,
-        tables,
-    ) {
-        return false;
-    }
-    let rows = layout::row_count(s);
-    if !is_spare(s, layout::rows_at(p), layout::row_width(p), places, rows) {
-        return false;
-    }
-    let entries = layout::entry_count(s);
-    is_spare(
-        s,
-        layout::entries_at(p, places),
-        layout::entry_width(p),
-        p.entries * places,
-        entries,
-    )
+    is_headed(s, p, places)
+        && is_spare(
+            s,
+            layout::HEADER_WIDTH,
+            layout::schema_width(p),
+            p.tables,
+            layout::table_count(s),
+        )
+        && is_spare(
+            s,
+            layout::rows_at(p),
+            layout::row_width(p),
+            places,
+            layout::row_count(s),
+        )
+        && is_spare(
+            s,
+            layout::entries_at(p, places),
+            layout::entry_width(p),
+            p.entries * places,
+            layout::entry_count(s),
+        )
 }

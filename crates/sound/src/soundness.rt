@@ -5,7 +5,6 @@ ghost use Rattle.rules.specs.Sound.{sound};
 ghost use Rattle.laid.specs.Store.{Coded};
 
 use super::{fresh, index_test, layout_test, reference_test, row_test, schema_test};
-use laid::layout;
 use rules::profile;
 use rules::profile::Profile;
 
@@ -18,37 +17,12 @@ pub fn is_sound_of(s: &[u8], p: Profile) -> bool
         return false;
     }
     let places = fresh::places_of(s, p);
-    if !layout_test::is_laid_out(s, p, places) {
-        return false;
-    }
-    if !schema_test::are_tables(s, p, places) {
-        return false;
-    }
-    if !schema_test::are_tables_sorted(s, p, places) {
-        return false;
-    }
-    if !schema_test::are_faultless(s, p, places) {
-        return false;
-    }
-    if !row_test::are_rows(s, p, places) {
-        return false;
-    }
-    if !row_test::are_rows_sorted(s, p, places) {
-        return false;
-    }
-    if !reference_test::are_linked(s, p, places) {
-        return false;
-    }
-    if !index_test::are_entries(s, p, places) {
-        return false;
-    }
-    if !index_test::are_entries_sorted(s, p, places) {
-        return false;
-    }
-    if layout::entry_count(s) != index_test::all_entries(s, p, places) {
-        return false;
-    }
-    index_test::are_entered(s, p, places)
+    layout_test::is_laid_out(s, p, places)
+        && schema_test::is_cataloged(s, p, places)
+        && schema_test::are_faultless(s, p, places)
+        && row_test::is_rowed(s, p, places)
+        && reference_test::are_linked(s, p, places)
+        && index_test::is_indexed(s, p, places)
 }
 
 // Whether the bytes are a sound store of document 01.

@@ -8,36 +8,22 @@ use areas::area;
 use sound::soundness;
 use std::io;
 use std::io::{Read, Write};
-use values::bytes;
 
 // The number in the four bytes at a position, 0 where they run past the end.
 fn four(s: &[u8], at: usize) -> usize {
-    if s.len() < 4 {
-        return 0;
-    }
-    if s.len() - 4 < at {
+    if s.len() < 4 || s.len() - 4 < at {
         return 0;
     }
     area::count_at(s, at, 4)
 }
 
-// Makes the changes of the case at a position: each an offset of four bytes and a byte.
-fn change(s: &mut [u8], list: &[u8], at: usize, count: usize) {
-    let mut p = at;
-    let mut left = count;
-    while 0 < left {
-        if list.len() < 5 {
-            return;
-        }
-        if list.len() - 5 < p {
-            return;
-        }
-        let offset = four(list, p);
+// Makes the changes of a case: each an offset of four bytes and a byte.
+fn change(s: &mut [u8], changes: &[u8]) {
+    for piece in changes.chunks_exact(5) {
+        let offset = four(piece, 0);
         if offset < s.len() {
-            s[offset] = list[p + 4];
+            s[offset] = piece[4];
         }
-        p += 5;
-        left -= 1;
     }
 }
 
@@ -48,9 +34,9 @@ fn say<W: Write>(out: &mut W, word: &str, n: u64) -> io::Result<()> {
 
 #[derive(Clone, Copy)]
 struct Tally {
-    pub sound: u64,
-    pub unsound: u64,
-    pub wrong: u64,
+    sound: u64,
+    unsound: u64,
+    wrong: u64,
 }
 
 // The verdict on one case, counted.
@@ -65,34 +51,22 @@ fn judged<W: Write>(
     let mut next = t;
     if found != expected {
         say(out, "wrong verdict on case", number)?;
-        if t.wrong < 1000000 {
-            next.wrong = t.wrong + 1;
-        }
+        next.wrong = t.wrong.saturating_add(1);
     }
     if found {
-        if t.sound < 1000000 {
-            next.sound = t.sound + 1;
-        }
+        next.sound = t.sound.saturating_add(1);
     } else {
-        if t.unsound < 1000000 {
-            next.unsound = t.unsound + 1;
-        }
+        next.unsound = t.unsound.saturating_add(1);
     }
     Ok(next)
 }
 
-// One case: the store of a list with the changes at a position.
-fn spoil(s: &mut [u8], list: &[u8], at: usize, count: usize) {
-    let n = s.len();
-    if list.len() < 4 {
-        return;
+// One case: the store of a list with changes.
+fn spoil(s: &mut [u8], list: &[u8], changes: &[u8]) {
+    if let Some(store) = list.get(4..4 + s.len()) {
+        s.copy_from_slice(store);
+        change(s, changes);
     }
-    if list.len() - 4 < n {
-        return;
-    }
-    let end = 4 + n;
-    bytes::copy(s, &list[4..end]);
-    change(s, list, at, count);
 }
 
 // All cases of a list, its store made anew for each in a slice of its length.
@@ -117,11 +91,9 @@ fn all_cases<W: Write>(out: &mut W, list: &[u8], s: &mut [u8]) -> io::Result<Tal
         if list.len() <= end {
             return Ok(t);
         }
-        spoil(s, list, at + 4, count);
+        spoil(s, list, &list[at + 4..end]);
         t = judged(out, s, list[end] == 1, number, t)?;
-        if number < 1000000 {
-            number += 1;
-        }
+        number = number.saturating_add(1);
         at = end + 1;
     }
     Ok(t)
@@ -134,7 +106,7 @@ fn run<W: Write>(out: &mut W, list: &[u8]) -> io::Result<()> {
         return Ok(());
     }
     let mut room = [0u8; 16384];
-    let t = all_cases(out, list, &mut room[0..size])?;
+    let t = all_cases(out, list, &mut room[..size])?;
     say(out, "sound", t.sound)?;
     say(out, "not sound", t.unsound)?;
     say(out, "wrong verdicts", t.wrong)
@@ -148,12 +120,8 @@ fn read_full<F: Read>(from: &mut F, s: &mut [u8]) -> usize
     let mut count = 0;
     while count < s.len() {
         match from.read(&mut s[count..]) {
-            Ok(0) | Err(_) => {
-                return count;
-            }
-            Ok(n) => {
-                count += n;
-            }
+            Ok(0) | Err(_) => return count,
+            Ok(n) => count += n,
         }
     }
     count
@@ -162,5 +130,5 @@ fn read_full<F: Read>(from: &mut F, s: &mut [u8]) -> usize
 fn main(rt: HostRuntime) {
     let mut list = [0u8; 65536];
     let n = read_full(&mut rt.stdin(), &mut list);
-    let _told = run(&mut rt.stdout(), &list[0..n]);
+    let _ = run(&mut rt.stdout(), &list[..n]);
 }

@@ -1,11 +1,13 @@
 -- A table created in a store: its record put in at its rank makes the image of the state with it. Assumes nothing.
 use mathlib.Core.Path.{◌≡◌, refl, sym, ap, ◌∙◌}
-use mathlib.Core.Bool.{Bool, true, false}
-use mathlib.Core.Option.{none, some, none-ne-some}
+use mathlib.Core.Bool.{Bool, true, false, true≢false}
+use Rattle.std.specs.Option as O
+use Rattle.std.specs.declared.option.Option.{Option as Held}
+use Rattle.std.specs.declared.option.Option.TheVariants.{None, Some}
+use mathlib.Core.Option.{Option, none, some, none-ne-some}
 use Prim.Native.Nat.{ℕ, ◌+◌, ◌-◌, ◌*◌, ◌≤◌, ◌<◌}
 use native.Mathlib.Omega.{arith}
 use mathlib.Core.List.{List}
-use lib.Dec.{eqb}
 use lib.ListN.{length, take, drop, replicate, length-replicate}
 use Rattle.values.specs.Basic.{is_lt, cmp_bytes, insert_by}
 use Rattle.values.specs.Area.{with_record}
@@ -17,9 +19,8 @@ use Rattle.areas.proofs.Changes.{length-insert-at, replace-insert}
 use Rattle.areas.proofs.Placing.{rank, holds, insert-new}
 use Rattle.areas.proofs.Sorting.{find_none}
 use Rattle.rules.specs.declared.profile.Profile.{Profile}
-use Rattle.rules.specs.declared.answer.Answer.{Answer}
-use Rattle.rules.specs.declared.answer.Refusal.TheVariants.{TableExists, TablesFull}
-use Rattle.rules.specs.Refusal.{number_of}
+use Rattle.rules.specs.Request.{Answer}
+use Rattle.rules.specs.Refusal.{Refusal, TableExists, TablesFull}
 use Rattle.rules.specs.Profile.{header_width, schema_width}
 use Rattle.rules.specs.State.{Name, same_name, Table, Row, State, cmp_table, is_named, table_named}
 use Rattle.rules.specs.Index.{Entry}
@@ -35,9 +36,7 @@ use Rattle.rules.proofs.Lists.{any_none}
 use Rattle.rules.proofs.Room.{indexed}
 use Rattle.rules.proofs.Tests.{name-is}
 use Rattle.laid.specs.Store.{Store, Stored}
-use Rattle.laid.specs.Catalog.{TableBytes, before, place_of, RunIn}
-use Rattle.checks.specs.Faults.{fault_of}
-use Rattle.checks.specs.declared.schema_fault.Fault as D
+use Rattle.laid.specs.Catalog.{TableBytes, before, place_of, found_at, RunIn}
 use Rattle.walks.proofs.ByName.{run_in, tables-fall, tables-ranked}
 use Rattle.laid.proofs.Finding.{place-missing}
 use Rattle.store.proofs.Outcomes.{create-known, create-faulty, create-full, create-new, unchanged}
@@ -45,9 +44,14 @@ use Rattle.laid.proofs.Runs.{run-ranked, run-place}
 use Rattle.laid.proofs.Searching.{tables-count, found-table}
 use Rattle.laid.proofs.Stores.{store-valid, store_laid, store-lists}
 
--- a fault that is none, as the code has it
-pub no-fault : (ts : List Table) (t : Table) (x : D.Fault) → fault_of x ≡ schema_fault ts t → eqb (number_of x.kind) 0 ≡ true → schema_fault ts t ≡ none
-no-fault ts t x e u = sym (rw u at e)
+-- a place, or none, as the code has it
+pub place-given : (r : Held ℕ) {o : Option ℕ} → found_at r ≡ o → O.is_some r ≡ true → (i : ℕ) × (some i ≡ o)
+place-given None e h = absurd (true≢false (sym h))
+place-given (Some i) e h = (i, e)
+
+pub none-given : (r : Held ℕ) {o : Option ℕ} → found_at r ≡ o → O.is_some r ≡ false → none ≡ o
+none-given None e h = e
+none-given (Some i) e h = absurd (true≢false h)
 
 module _ {p : Profile} {R : ℕ} {s : List ℕ} (b : Store p R s) {rec : List ℕ} (k : TableBytes p rec) {n : Name} (en : n ≡ read_name rec) where
   abbrev now : State
@@ -70,14 +74,12 @@ module _ {p : Profile} {R : ℕ} {s : List ℕ} (b : Store p R s) {rec : List �
     unnamed : table_named now.tables new.name ≡ none
     unnamed = ap (table_named now.tables) (sym its-name) ∙ place-missing (is_named n) now.tables (sym f)
 
-    pub faulty-kept : (x : D.Fault) → fault_of x ≡ schema_fault now.tables new → eqb (number_of x.kind) 0 ≡ false
-        → (a : Answer) → said a ≡ no x.kind x.at → Stored p R (create p now new) s s a
-    faulty-kept x e u a h =
-        unchanged p R s b (create p now new) (no x.kind x.at) (create-faulty p now new unnamed x.kind x.at (sym (rw u at e))) a h
+    pub faulty-kept : (k : Refusal) (i : ℕ) → some (k, i) ≡ schema_fault now.tables new → (a : Answer) → said a ≡ no k i → Stored p R (create p now new) s s a
+    faulty-kept k i e a h = unchanged p R s b (create p now new) (no k i) (create-faulty p now new unnamed k i (sym e)) a h
 
-    pub full-kept : schema_fault now.tables new ≡ none → {count : ℕ} → count ≡ count_at tables_count 1 s → p.tables ≤ count
+    pub full-kept : none ≡ schema_fault now.tables new → {count : ℕ} → count ≡ count_at tables_count 1 s → p.tables ≤ count
         → (a : Answer) → said a ≡ no TablesFull 0 → Stored p R (create p now new) s s a
-    full-kept g ec l a h = unchanged p R s b (create p now new) (no TablesFull 0) (create-full p now new unnamed g (omega (arith, ec, tables-count p R s))) a h
+    full-kept g ec l a h = unchanged p R s b (create p now new) (no TablesFull 0) (create-full p now new unnamed (sym g) (omega (arith, ec, tables-count p R s))) a h
 
 -- ---- a table that is taken: its place among the others
 
@@ -92,11 +94,17 @@ pub record Taken (p : Profile) (R : ℕ) (s rec : List ℕ) (n : Name) (count w 
   pub table : TableBytes p rec
   pub named : n ≡ read_name rec
   pub missing : none ≡ place_of (is_named n) (parse p R s).tables
-  pub faultless : schema_fault (parse p R s).tables (read_table p rec) ≡ none
+  pub faultless : none ≡ schema_fault (parse p R s).tables (read_table p rec)
   pub counted : count ≡ count_at tables_count 1 s
   pub room : count < p.tables
   pub width : w ≡ schema_width p
   pub place : i ≡ count_of (before n) (records w count (take (length s - header_width) (drop header_width s)))
+
+pub taken : {p : Profile} {R : ℕ} {s rec : List ℕ} {n : Name} {count w i : ℕ} → Store p R s → TableBytes p rec → n ≡ read_name rec → none ≡ place_of (is_named n) (parse p R s).tables
+    → none ≡ schema_fault (parse p R s).tables (read_table p rec) → count ≡ count_at tables_count 1 s → count < p.tables → w ≡ schema_width p
+    → i ≡ count_of (before n) (records w count (take (length s - header_width) (drop header_width s))) → Taken p R s rec n count w i
+taken b k en f g ec l ew ei =
+    record { store = b; table = k; named = en; missing = f; faultless = g; counted = ec; room = l; width = ew; place = ei }
 
 module _ {p : Profile} {R : ℕ} {s rec : List ℕ} {n : Name} {count w i : ℕ} (q : Taken p R s rec n count w i) where
   abbrev b : Store p R s
@@ -175,7 +183,7 @@ module _ {p : Profile} {R : ℕ} {s rec : List ℕ} {n : Name} {count w i : ℕ}
     pub table-created : {s₂ : List ℕ} → s₂ ≡ with_record header_width i rec s₁ → (a : Answer) → said a ≡ ok 0 → Stored p R (create p old its) s s₂ a
     unfolding image apply_all apply
     table-created e₂ a h =
-        rw (create-new p old its free q.faultless (omega (arith, q.counted, q.room, tables-count p R s)))
+        rw (create-new p old its free (sym q.faultless) (omega (arith, q.counted, q.room, tables-count p R s)))
         (record {
           answer = h;
           bytes =

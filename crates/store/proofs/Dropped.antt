@@ -8,20 +8,17 @@ use mathlib.Core.List.{List}
 use lib.ListN.{length, length-map}
 use Rattle.values.specs.Basic.{keep}
 use Rattle.areas.specs.Counted.{Shrinks, shrunk}
-use Rattle.values.specs.declared.value.Value.TheVariants.{Null}
-use Rattle.values.specs.Meaning.{text_bytes, meaning}
-use Rattle.values.specs.Value.{null}
 use Rattle.areas.specs.Sorted.{remove_run}
 use Rattle.areas.proofs.Changes.{remove-one}
 use Rattle.areas.proofs.Placing.{rank, holds, keep-others}
 use Rattle.rules.specs.declared.profile.Profile.{Profile}
-use Rattle.rules.specs.declared.answer.Answer.{Answer}
+use Rattle.rules.specs.Request.{Answer}
 use Rattle.rules.specs.Profile.{header_width, schema_width}
 use Rattle.rules.specs.State.{Name, Table, Row, State, cmp_table, is_named}
 use Rattle.rules.specs.Index.{Entry}
 use Rattle.rules.specs.Layout.{Laid, Schemas, Rows, Entries, in_area, tables_count, records_of, layout, image, parse, unknown}
-use Rattle.rules.specs.declared.answer.Refusal.TheVariants.{UnknownTable, TableReferenced}
-use Rattle.rules.specs.Request.{said, ok, no, Carried, carried_by, no_carrying}
+use Rattle.rules.specs.Refusal.{UnknownTable, TableReferenced}
+use Rattle.rules.specs.Request.{said, ok, no, Carried, no_carrying}
 use Rattle.rules.specs.Rows.{table_referenced}
 use Rattle.rules.specs.Step.{drop}
 use Rattle.rules.proofs.Contents.{remove-tables}
@@ -32,9 +29,7 @@ use Rattle.rules.proofs.Laid.{laid-shrinks, laid-shrunk}
 use Rattle.rules.proofs.Removed.{with_rows, without, drop-comes}
 use Rattle.rules.proofs.Room.{indexed}
 use Rattle.laid.specs.Store.{Store, Stored}
-use Rattle.store.specs.declared.local.Reference.{Reference}
 use Rattle.laid.specs.Catalog.{place_of, RunIn, RunOut}
-use Rattle.store.specs.Referenced.{reference_of}
 use Rattle.walks.proofs.ByName.{entries_outside, rows_outside, run_in, run-left, entries-fall, entries-gone, rows-fall, rows-gone}
 use Rattle.laid.proofs.Finding.{place_found, place-missing, no_place, place-rank}
 use Rattle.store.proofs.Outcomes.{drop-unknown, drop-nothing, drop-referenced, drop-known, unchanged}
@@ -61,14 +56,10 @@ module _ {p : Profile} {R : ℕ} {s : List ℕ} (b : Store p R s) (n : Name) whe
   unknown-passed {l} e f a h =
       unchanged p R s b (drop before n l) (ok 0) (rw e (drop-nothing before n (place-missing (is_named n) before.tables (sym f)))) a h
 
-  pub referenced-kept : (l : Bool) {i : ℕ} → some i ≡ place_of (is_named n) before.tables
-      → (r : Reference) → r.found ≡ true → reference_of r ≡ table_referenced n before.tables
-      → (a : Answer) → said a ≡ no_carrying TableReferenced 0 (carried_by (text_bytes r.table) r.column (meaning Null)) → Stored p R (drop before n l) s s a
-  unfolding meaning
-  referenced-kept l {i} f r t e a h =
-      let x : Carried = carried_by (text_bytes r.table) r.column null in
-      let g : table_referenced n before.tables ≡ some x = sym (rw t at e) in
-      unchanged p R s b (drop before n l) (no_carrying TableReferenced 0 x) (drop-referenced before n l _ (found-table p R s n i f) x g) a h
+  pub referenced-kept : (l : Bool) {i : ℕ} → some i ≡ place_of (is_named n) before.tables → (x : Carried) → some x ≡ table_referenced n before.tables
+      → (a : Answer) → said a ≡ no_carrying TableReferenced 0 x → Stored p R (drop before n l) s s a
+  referenced-kept l {i} f x e a h =
+      unchanged p R s b (drop before n l) (no_carrying TableReferenced 0 x) (drop-referenced before n l _ (found-table p R s n i f) x (sym e)) a h
 
   -- ---- the three steps
 
@@ -118,13 +109,13 @@ module _ {p : Profile} {R : ℕ} {s : List ℕ} (b : Store p R s) (n : Name) whe
             rw (remove-tables p (with_rows before rest) few i 1 ∙ ap (λ (ts : List Table). records_of p (record { tables = ts; rows = rest }) few) table-gone)
             at (laid-shrunk p R s₂ (records_of p (with_rows before rest) few) rows_left Schemas header_width w p.tables refl ew refl i 1 within)
 
-        pub table-dropped : (l : Bool) (r : Reference) → r.found ≡ false → reference_of r ≡ table_referenced n before.tables
+        pub table-dropped : (l : Bool) → none ≡ table_referenced n before.tables
             → {s₃ : List ℕ} → s₃ ≡ shrunk tables_count 1 header_width p.tables w i 1 s₂
             → (a : Answer) → said a ≡ ok 1 → Stored p R (drop before n l) s s₃ a
         unfolding image
-        table-dropped l r u g e a h =
+        table-dropped l g e a h =
             let t = found-table p R s n i f in
-            let o = drop-known before n l _ t (sym (rw u at g)) in
+            let o = drop-known before n l _ t (sym g) in
             let d = drop-comes before n _ (named-is before.tables n _ t) in
             rw o
             (record {

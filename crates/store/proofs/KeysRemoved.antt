@@ -3,22 +3,21 @@
 use mathlib.Core.Path.{◌≡◌, refl, sym, ap, ◌∙◌, subst}
 use mathlib.Core.Bool.{Bool, true, false, not}
 use mathlib.Core.Option.{Option, none, some}
-use Prim.Native.Nat.{ℕ, suc, ◌+◌, ◌-◌, ◌≤◌, ◌<◌}
+use Prim.Native.Nat.{ℕ, suc, ◌+◌, ◌<◌}
 use native.Mathlib.Omega.{arith}
 use mathlib.Core.List.{List, [], ◌∷◌}
 use lib.ListN.{length}
 use Rattle.values.specs.Basic.{is_nil, keep, nth, or_default, maybe}
 use Rattle.values.specs.Value.{Value}
-use Rattle.values.specs.Meaning.{text_bytes, held}
 use Rattle.areas.proofs.Sorting.{keep-sorted, keep-length, in-keep, find-in}
 use Rattle.rules.specs.declared.profile.Profile.{Profile}
-use Rattle.rules.specs.declared.answer.Answer.{Answer}
-use Rattle.rules.specs.declared.answer.Refusal.TheVariants.{UnknownTable, RowReferenced, JournalFull}
+use Rattle.rules.specs.Request.{Answer}
+use Rattle.rules.specs.Refusal.{UnknownTable, RowReferenced, JournalFull}
 use Rattle.rules.specs.State.{Name, Table, Row, State, is_named, table_named, of_table, is_row, row_with}
 use Rattle.rules.specs.Journal.{stood, lacks, Books}
 use Rattle.rules.specs.Layout.{image, parse, unknown}
 use Rattle.rules.specs.Pages.{journal_image, books_of}
-use Rattle.rules.specs.Request.{said, ok, no, Carried, carried_by, no_carrying}
+use Rattle.rules.specs.Request.{said, ok, no, Carried, no_carrying}
 use Rattle.rules.specs.Rows.{row_referenced}
 use Rattle.rules.specs.Schema.{first}
 use Rattle.rules.specs.Step.{Change, removed, apply, apply_all, note, note_all, changed, without_row, did, refused, removals, journal_fault, delete}
@@ -29,10 +28,7 @@ use Rattle.rules.proofs.Outside.{lacks-noted, removals-rows}
 use Rattle.rules.proofs.Removed.{with_rows, stays, removals-come}
 use Rattle.rules.proofs.Tests.{and_left, name-is}
 use Rattle.rules.proofs.Valid.{LaidState}
-use Rattle.walks.specs.declared.referrer.Referrer.{Referrer}
 use Rattle.laid.specs.Catalog.{place_of}
-use Rattle.checks.specs.Keys.{values_from}
-use Rattle.walks.specs.Referring.{referrer_of}
 use Rattle.store.specs.Removed.{removals_in, Removes, RoomFor}
 use Rattle.laid.specs.Row.{row_in, table_in, RowOf}
 use Rattle.laid.proofs.Finding.{place_found, place-missing}
@@ -204,51 +200,45 @@ module _ {p : Profile} {R : ℕ} {s j : List ℕ} (b : LaidBooks p R s j) (t : �
 
 -- ---- key after key
 
-pub record KeysTurn (p : Profile) (R : ℕ) (s₀ j₀ : List ℕ) (t : ℕ) (rec : List ℕ) (at count : ℕ) (s j : List ℕ) (left next : ℕ) : Type 0 where
+-- `left` are those whose rows stand yet, and `m` keys were turned
+pub record KeysTurn (p : Profile) (R : ℕ) (s₀ j₀ : List ℕ) (t : ℕ) (all : List Value) (s j : List ℕ) (left : List Value) (m : ℕ) : Type 0 where
   pub books : LaidBooks p R s j
   pub known : t < length (parse p R s).tables
   pub long : length s ≡ length s₀
   pub places : length j ≡ length j₀
-  pub few : left ≤ count
-  pub room : RoomFor p R s j t (values_from rec left next)
-  pub rest : changed (removals_in p R s t (values_from rec left next)) (books_of p R s j) ≡ changed (removals_in p R s₀ t (values_from rec count at)) (books_of p R s₀ j₀)
-  pub counted : (count - left) + length (values_from rec left next) ≡ length (values_from rec count at)
+  pub room : RoomFor p R s j t left
+  pub rest : changed (removals_in p R s t left) (books_of p R s j) ≡ changed (removals_in p R s₀ t all) (books_of p R s₀ j₀)
+  pub counted : m + length left ≡ length all
 
-module _ (p : Profile) (R : ℕ) (s₀ j₀ : List ℕ) (t : ℕ) (rec : List ℕ) (at count : ℕ) where
-  pub keys-start : LaidBooks p R s₀ j₀ → t < length (parse p R s₀).tables → RoomFor p R s₀ j₀ t (values_from rec count at)
-      → KeysTurn p R s₀ j₀ t rec at count s₀ j₀ count at
-  keys-start b h l = record { books = b; known = h; long = refl; places = refl; few = omega arith; room = l; rest = refl; counted = omega arith }
-
-  module _ (s j : List ℕ) (left next : ℕ) (x : KeysTurn p R s₀ j₀ t rec at count s j left next) where
-    -- a key was read
-    module _ (h : 0 < left) (k : Value) (end : ℕ) (e : values_from rec left next ≡ k ∷ values_from rec (left - 1) end) where
-      whole_room : RoomFor p R s j t (k ∷ values_from rec (left - 1) end)
+module _ (p : Profile) (R : ℕ) (s₀ j₀ : List ℕ) (t : ℕ) (all : List Value) where
+  module _ {s j : List ℕ} {left : List Value} {m : ℕ} (x : KeysTurn p R s₀ j₀ t all s j left m) where
+    -- the first of the others
+    module _ {k : Value} {ks : List Value} (e : left ≡ k ∷ ks) where
+      whole_room : RoomFor p R s j t (k ∷ ks)
       whole_room = rw e at x.room
 
       pub keys-room : RoomFor p R s j t (k ∷ [])
-      keys-room = key-room x.books t k (values_from rec (left - 1) end) whole_room
+      keys-room = key-room x.books t k ks whole_room
 
       -- and its row went
-      pub keys-next : (s₁ j₁ : List ℕ) → Removes p R s j t (k ∷ []) s₁ j₁ → KeysTurn p R s₀ j₀ t rec at count s₁ j₁ (left - 1) end
-      keys-next s₁ j₁ g =
+      pub keys-next : {s₁ j₁ : List ℕ} → Removes p R s j t (k ∷ []) s₁ j₁ → KeysTurn p R s₀ j₀ t all s₁ j₁ ks (m + 1)
+      keys-next g =
           let b = x.books in
           record {
             books = left_books b t (k ∷ []) keys-room g;
             known = rw (left-tables b t (k ∷ []) keys-room g) x.known;
             long = left-length b t (k ∷ []) keys-room g ∙ x.long;
             places = left-places b t (k ∷ []) keys-room g ∙ x.places;
-            few = omega (arith, x.few);
-            room = key-room-then b t k (values_from rec (left - 1) end) whole_room g;
-            rest = key-then b t k (values_from rec (left - 1) end) whole_room g
-                ∙ ap (λ (ks : List Value). changed (removals_in p R s t ks) (books_of p R s j)) (sym e) ∙ x.rest;
-            counted = omega (arith, x.few, ap length e, x.counted);
+            room = key-room-then b t k ks whole_room g;
+            rest = key-then b t k ks whole_room g ∙ ap (λ (vs : List Value). changed (removals_in p R s t vs) (books_of p R s j)) (sym e) ∙ x.rest;
+            counted = omega (arith, ap length e, x.counted);
           }
 
     -- no key is left
-    pub keys-end : values_from rec left next ≡ [] → Removes p R s₀ j₀ t (values_from rec count at) s j × (count - left ≡ length (values_from rec count at))
+    pub keys-end : left ≡ [] → Removes p R s₀ j₀ t all s j × (m ≡ length all)
     unfolding removals_in removals apply_all note_all
     keys-end e =
-        let q : books_of p R s j ≡ changed (removals_in p R s₀ t (values_from rec count at)) (books_of p R s₀ j₀) =
+        let q : books_of p R s j ≡ changed (removals_in p R s₀ t all) (books_of p R s₀ j₀) =
         ap (λ (ks : List Value). changed (removals_in p R s t ks) (books_of p R s j)) (sym e) ∙ x.rest
         in (
           record {
@@ -286,14 +276,13 @@ module _ {p : Profile} {R : ℕ} {s j : List ℕ} (b : Booked p R s j) (n : Name
   pub delete-missed : none ≡ place_of (is_named n) (parse p R s).tables → (a : Answer) → said a ≡ no UnknownTable 0 → Settled p R (delete before n ks) s j s j a
   delete-missed f a h = left_alone b (delete before n ks) (no UnknownTable 0) (delete-unknown before n ks (place-missing (is_named n) (parse p R s).tables (sym f))) a h
 
-  module _ (t : ℕ) (f : some t ≡ place_of (is_named n) (parse p R s).tables) (r : Referrer) (e : referrer_of r ≡ row_referenced (parse p R s).rows n ks (parse p R s).tables) where
-    pub delete-held : r.found ≡ true → (a : Answer) → said a ≡ no_carrying RowReferenced 0 (carried_by (text_bytes r.table) r.column (held r.key))
+  module _ (t : ℕ) (f : some t ≡ place_of (is_named n) (parse p R s).tables) where
+    pub delete-held : (x : Carried) → some x ≡ row_referenced (parse p R s).rows n ks (parse p R s).tables → (a : Answer) → said a ≡ no_carrying RowReferenced 0 x
         → Settled p R (delete before n ks) s j s j a
-    delete-held h a g =
-        let x : Carried = carried_by (text_bytes r.table) r.column (held r.key) in
-        left_alone b (delete before n ks) (no_carrying RowReferenced 0 x) (delete-referenced before n ks (table_in p R s t) (stored p R s n t f) x (sym (rw h at e))) a g
+    delete-held x e a g =
+        left_alone b (delete before n ks) (no_carrying RowReferenced 0 x) (delete-referenced before n ks (table_in p R s t) (stored p R s n t f) x (sym e)) a g
 
-    module _ (h : r.found ≡ false) where
+    module _ (e : none ≡ row_referenced (parse p R s).rows n ks (parse p R s).tables) where
       named : (table_in p R s t).name ≡ n
       named = named-is (parse p R s).tables n (table_in p R s t) (stored p R s n t f)
 
@@ -304,10 +293,10 @@ module _ {p : Profile} {R : ℕ} {s j : List ℕ} (b : Booked p R s j) (n : Name
       pub delete-lacks : lacks before.journal (length (removals_in p R s t ks)) ≡ true → (a : Answer) → said a ≡ no JournalFull 0 → Settled p R (delete before n ks) s j s j a
       delete-lacks l a g =
           left_alone b (delete before n ks) (no JournalFull 0)
-          (delete-full before n ks (table_in p R s t) (stored p R s n t f) (sym (rw h at e)) (rw its-removals at l)) a g
+          (delete-full before n ks (table_in p R s t) (stored p R s n t f) (sym e) (rw its-removals at l)) a g
 
       pub delete-goes : RoomFor p R s j t ks → {s₁ j₁ : List ℕ} {m : ℕ} → Removes p R s j t ks s₁ j₁ × (m ≡ length ks) → (a : Answer) → said a ≡ ok m
           → Settled p R (delete before n ks) s j s₁ j₁ a
       delete-goes l g a w =
-          rw (delete-known before n ks (table_in p R s t) (stored p R s n t f) (sym (rw h at e)) (rw its-removals at l))
+          rw (delete-known before n ks (table_in p R s t) (stored p R s n t f) (sym e) (rw its-removals at l))
           (record { answer = w ∙ ap ok g.1; bytes = rw its-removals at g.0 })

@@ -11,7 +11,7 @@ use Rattle.values.specs.Basic.{find, is_some, keep, nth, maybe, or_default}
 use Rattle.values.specs.Value.{Value, among}
 use Rattle.values.specs.Cell.{name_width}
 use Rattle.rules.specs.declared.profile.Profile.{Profile}
-use Rattle.rules.specs.declared.answer.Refusal.TheVariants.{UnknownTable, NotIndexed}
+use Rattle.rules.specs.Refusal.{UnknownTable, NotIndexed}
 use Rattle.rules.specs.State as S
 use Rattle.rules.specs.State.{Name, Table, Row, is_named, table_named, of_table, is_row, cell_at}
 use Rattle.rules.specs.Layout.{lists, parse}

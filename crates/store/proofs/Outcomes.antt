@@ -8,9 +8,9 @@ use lib.ListN.{length}
 use borrow.Author.Tests.{le-leb, lt-leb}
 use Rattle.values.specs.Basic.{◌or_else◌, maybe}
 use Rattle.rules.specs.declared.profile.Profile.{Profile}
-use Rattle.rules.specs.declared.answer.Answer.{Answer}
-use Rattle.rules.specs.declared.answer.Refusal.{Refusal}
-use Rattle.rules.specs.declared.answer.Refusal.TheVariants.{UnknownTable, TableExists, TablesFull, TableReferenced}
+use Rattle.rules.specs.Request.{Answer}
+use Rattle.rules.specs.Refusal.{Refusal}
+use Rattle.rules.specs.Refusal.{UnknownTable, TableExists, TablesFull, TableReferenced}
 use Rattle.rules.specs.State.{Name, Table, State, table_named, rows_of}
 use Rattle.rules.specs.Request.{Reply, said, ok, no, Carried, no_carrying}
 use Rattle.rules.specs.Schema.{first, at, schema_fault}

@@ -1,4 +1,5 @@
 -- References to a table as the code looks for them: columns in turn, and tables by name. Assumes nothing.
+use Rattle.std.specs.declared.option.Option.{Option as Found}
 use mathlib.Core.Path.{◌≡◌, sym, ap, ◌∙◌}
 use mathlib.Core.Bool.{true, false}
 use mathlib.Core.Option.{Option, none, some}
@@ -9,7 +10,6 @@ use lib.Dec.{compare_is_eq}
 use lib.ListN.{length, drop, get_or, drop_of_length-le}
 use Rattle.values.specs.Basic.{cmp_bytes, ◌or_else◌}
 use Rattle.values.specs.Cell.{read_name}
-use Rattle.values.specs.Meaning.{text_bytes}
 use Rattle.areas.specs.Search.{cmp_named}
 use Rattle.values.specs.Value.{null}
 use Rattle.rules.specs.declared.profile.Profile.{Profile}
@@ -18,14 +18,13 @@ use Rattle.rules.specs.Layout.{lists, read_table, parse}
 use Rattle.rules.specs.Rows.{refers_to, first_reference, table_referenced}
 use Rattle.laid.specs.declared.catalog.Column as D
 use Rattle.laid.specs.Column.{column_of, ColumnRead}
-use Rattle.laid.specs.declared.catalog.Found.{Found}
 use Rattle.laid.specs.Catalog.{TableBytes, found_at}
 use Rattle.laid.proofs.Columns.{columns_of, column-drop}
 use Rattle.laid.proofs.Finding.{drop_nth}
 use Rattle.store.proofs.TableAt.{table-nth}
 
 -- what is found, where an answer is known
-pub answer-is : {r f : Found} {o : Option ℕ} → r ≡ f → found_at r ≡ o → found_at f ≡ o
+pub answer-is : {r f : Found ℕ} {o : Option ℕ} → r ≡ f → found_at r ≡ o → found_at f ≡ o
 answer-is e h = rw e at h
 
 -- ---- the columns of a table
@@ -50,15 +49,11 @@ module _ (p : Profile) (rec : List ℕ) (b : TableBytes p rec) (n : Name) (j : �
   at_place : drop j (columns_of p rec) ≡ column_of c ∷ drop (suc j) (columns_of p rec)
   at_place = column-drop p rec b j l ∙ ap (λ (x : Column). x ∷ drop (suc j) (columns_of p rec)) (sym r.is)
 
-  pub column-without : c.references ≡ false → first_reference n 0 (columns_of p rec) ≡ first_reference n (j + 1) (drop (j + 1) (columns_of p rec))
-  column-without f = reference-past n (columns_of p rec) j h (column_of c) at_place (rw f)
+  pub column-past : refers_to n (column_of c) ≡ false → first_reference n 0 (columns_of p rec) ≡ first_reference n (j + 1) (drop (j + 1) (columns_of p rec))
+  column-past f = reference-past n (columns_of p rec) j h (column_of c) at_place f
 
-  pub column-other : c.references ≡ true → compare_is_eq (cmp_bytes n (text_bytes c.reference)) ≡ false
-      → first_reference n 0 (columns_of p rec) ≡ first_reference n (j + 1) (drop (j + 1) (columns_of p rec))
-  column-other t f = reference-past n (columns_of p rec) j h (column_of c) at_place (rw t f)
-
-  pub column-refers : c.references ≡ true → compare_is_eq (cmp_bytes n (text_bytes c.reference)) ≡ true → some j ≡ first_reference n 0 (columns_of p rec)
-  column-refers t e = reference-here n (columns_of p rec) j h (column_of c) at_place (rw t e)
+  pub column-refers : refers_to n (column_of c) ≡ true → some j ≡ first_reference n 0 (columns_of p rec)
+  column-refers t = reference-here n (columns_of p rec) j h (column_of c) at_place t
 
 -- ---- the tables
 

@@ -1,5 +1,5 @@
 -- How many rows go with keys: one for each key whose row is stored and that does not come again. Assumes nothing.
-use Prim.Native.Nat.{ℕ, zero, suc, ◌+◌, ◌-◌, ◌≤◌, ◌<◌}
+use Prim.Native.Nat.{ℕ, suc, ◌+◌, ◌≤◌}
 use native.Mathlib.Omega.{arith}
 use mathlib.Core.Path.{◌≡◌, refl, sym, ◌∙◌, ap}
 use mathlib.Core.Bool.{Bool, true, false, not, ◌&&◌, ◌||◌, cond, true≢false}
@@ -19,8 +19,6 @@ use Rattle.rules.proofs.Tests.{and_left, and_right, and_both, is_eq, some_is}
 use Rattle.rules.proofs.Lists.{bool_same, find_at}
 use Rattle.rules.proofs.Removed.{at-found}
 use Rattle.laid.specs.Row.{table_in}
-use Rattle.forms.specs.Read.{Read, got, broken, value_at}
-use Rattle.checks.specs.Keys.{on_read, values_from}
 use Rattle.store.specs.Removed.{removals_in}
 
 -- one, where a row with the key is stored and the key is not among those that follow
@@ -153,51 +151,31 @@ few-gone (k ∷ ks) n rs = omega (arith, one (not (among k ks) && has_row rs n k
 pub gone-most : (ks : List Value) (n : Name) (rs : List Row) → length (removals rs n ks) ≤ length ks
 gone-most ks n rs = rw (gone-counted ks n rs) (few-gone ks n rs)
 
-values-few : (s : List ℕ) (n at : ℕ) → length (values_from s n at) ≤ n
-unfolding values_from on_read
-values-few s zero at = omega arith
-values-few s (suc n) at = go (value_at s at) (values-few s n)
-  where
-    go : (r : Read Value) → ((b : ℕ) → length (values_from s n b) ≤ n) → length (on_read r [] (λ v b. v ∷ values_from s n b)) ≤ suc n
-    go (got v b) h = omega (arith, h b)
-    go (broken x) h = omega arith
+-- ---- key after key, as the code counts them: `left` are those that were not asked yet
 
--- ---- key after key, as the code counts them
+pub record CountTurn (p : Profile) (R : ℕ) (s : List ℕ) (t : ℕ) (all left : List Value) (rows : ℕ) : Type 0 where
+  pub rest : rows + rows_gone (parse p R s).rows (table_in p R s t).name left ≡ rows_gone (parse p R s).rows (table_in p R s t).name all
+  pub few : rows + length left ≤ length all
 
--- the key comes again; or it counts where its row is stored
-pub counted-later : {a : Bool} (h : Bool) → a ≡ true → false ≡ (not a && h)
-counted-later h e = rw e refl
-
-pub counted-stored : {a h r : Bool} → a ≡ false → r ≡ h → r ≡ (not a && h)
-counted-stored e f = rw e f
-
-pub record CountTurn (p : Profile) (R : ℕ) (s : List ℕ) (t : ℕ) (rec : List ℕ) (at count rows left next : ℕ) : Type 0 where
-  pub rest : rows + rows_gone (parse p R s).rows (table_in p R s t).name (values_from rec left next) ≡ rows_gone (parse p R s).rows (table_in p R s t).name (values_from rec count at)
-  pub few : rows + left ≤ count
-
-module _ (p : Profile) (R : ℕ) (s : List ℕ) (t : ℕ) (rec : List ℕ) (at count : ℕ) where
-  pub gone-few : length (removals_in p R s t (values_from rec count at)) ≤ count
+module _ (p : Profile) (R : ℕ) (s : List ℕ) (t : ℕ) (all : List Value) where
+  pub gone-few : length (removals_in p R s t all) ≤ length all
   unfolding removals_in
-  gone-few = omega (arith, gone-most (values_from rec count at) (table_in p R s t).name (parse p R s).rows, values-few rec count at)
+  gone-few = gone-most all (table_in p R s t).name (parse p R s).rows
 
-  pub count-start : CountTurn p R s t rec at count 0 count at
-  count-start = record { rest = omega arith; few = omega arith }
-
-  module _ {rows left next : ℕ} (x : CountTurn p R s t rec at count rows left next) where
-    module _ (h : 0 < left) {k : Value} (end : ℕ) (e : values_from rec left next ≡ k ∷ values_from rec (left - 1) end) {n : Name} (en : n ≡ (table_in p R s t).name)
-        {c : Bool} (ec : c ≡ (not (among k (values_from rec (left - 1) end)) && has_row (parse p R s).rows n k)) where
-      first-is : rows_gone (parse p R s).rows (table_in p R s t).name (values_from rec left next) ≡ cond c 1 0 + rows_gone (parse p R s).rows (table_in p R s t).name (values_from rec (left - 1) end)
+  module _ {left : List Value} {rows : ℕ} (x : CountTurn p R s t all left rows) where
+    module _ {k : Value} {ks : List Value} (e : left ≡ k ∷ ks) {n : Name} (en : n ≡ (table_in p R s t).name) {c : Bool} (ec : c ≡ (not (among k ks) && has_row (parse p R s).rows n k)) where
+      first-is : rows_gone (parse p R s).rows (table_in p R s t).name left ≡ cond c 1 0 + rows_gone (parse p R s).rows (table_in p R s t).name ks
       unfolding rows_gone
       first-is = rw (e, ec, en)
 
-      pub count-one : c ≡ true → CountTurn p R s t rec at count (rows + 1) (left - 1) end
-      count-one g = let f = rw g at first-is in record { rest = omega (arith, f, x.rest); few = omega (arith, x.few) }
+      pub count-one : c ≡ true → CountTurn p R s t all ks (rows + 1)
+      count-one g = let f = rw g at first-is in record { rest = omega (arith, f, x.rest); few = omega (arith, ap length e, x.few) }
 
-      pub count_none : c ≡ false → CountTurn p R s t rec at count rows (left - 1) end
-      count_none g = let f = rw g at first-is in record { rest = omega (arith, f, x.rest); few = omega (arith, x.few) }
+      pub count_none : c ≡ false → CountTurn p R s t all ks rows
+      count_none g = let f = rw g at first-is in record { rest = omega (arith, f, x.rest); few = omega (arith, ap length e, x.few) }
 
-    pub count-end : values_from rec left next ≡ [] → rows ≡ length (removals_in p R s t (values_from rec count at))
+    pub count-end : left ≡ [] → rows ≡ length (removals_in p R s t all)
     unfolding removals_in rows_gone
     count-end e =
-        let f : rows_gone (parse p R s).rows (table_in p R s t).name (values_from rec left next) ≡ 0 = rw e in
-        omega (arith, f, x.rest, gone-counted (values_from rec count at) (table_in p R s t).name (parse p R s).rows)
+        let f : rows_gone (parse p R s).rows (table_in p R s t).name left ≡ 0 = rw e in
+        omega (arith, f, x.rest, gone-counted all (table_in p R s t).name (parse p R s).rows)

@@ -6,17 +6,25 @@ use mathlib.Core.Path.{◌≡◌, refl, sym, ◌∙◌, ap, subst}
 use mathlib.Core.Bool.{Bool, true, false, not}
 use mathlib.Core.List.{List, [], ◌∷◌, ◌++◌}
 use mathlib.Core.Option.{Option, none, some, map}
+use lib.Dec.{eqb}
 use lib.ListN.{length, length-append}
 use borrow.Author.Tests.{not-true, not-false}
 use Rattle.values.specs.Basic.{maybe}
 use Rattle.values.specs.Value.{Value}
 use Rattle.rules.specs.declared.profile.Profile.{Profile}
-use Rattle.rules.specs.declared.answer.Answer.{Answer}
+use Rattle.rules.specs.Request.{Answer}
 use Rattle.rules.specs.Profile.{row_width}
 use Rattle.rules.specs.State.{Name, Row}
 use Rattle.rules.specs.Journal.{Event, absent, stood, lacks, Books}
-use Rattle.rules.specs.Request.{Reply, said}
-use Rattle.rules.specs.Step.{Change, changed, Outcome, refused, apply_all, note_all}
+use Rattle.rules.specs.declared.answer.Carried as C
+use Rattle.rules.specs.declared.answer.Refusal as R
+use Rattle.rules.specs.declared.answer.Refusal.TheVariants as V
+use Rattle.rules.specs.declared.answer.Refused.{Refused}
+use Rattle.rules.specs.Refusal.{number_of, refusal_of}
+use Rattle.rules.specs.Request.{Reply, said, told, no_with, with_gone}
+use Rattle.std.specs.declared.option.Option as O
+use Rattle.std.specs.declared.option.Option.TheVariants.{None, Some}
+use Rattle.rules.specs.Step.{Change, changed, Outcome, refused, is_accepted, apply_all, note_all}
 use Rattle.rules.specs.Sound.{every, good_event}
 use Rattle.rules.specs.Layout.{row_record}
 use Rattle.rules.specs.Pages.{journal_length, event_width, event_record, books_of}
@@ -35,18 +43,18 @@ module _ {p : Profile} {R : ℕ} {s j : List ℕ} (b : LaidBooks p R s j) where
   pub paged-of : Paged p j
   paged-of = record { journal = (books_of p R s j).journal; holds = journaled b }
 
-  told : (n : ℕ) {r : Bool} → r ≡ has_places p n j → r ≡ not (lacks (books_of p R s j).journal n)
-  told n e = e ∙ has-places-is (journaled b) n
+  tells : (n : ℕ) {r : Bool} → r ≡ has_places p n j → r ≡ not (lacks (books_of p R s j).journal n)
+  tells n e = e ∙ has-places-is (journaled b) n
 
   pub has_room : (n : ℕ) {r : Bool} → r ≡ has_places p n j → r ≡ true → lacks (books_of p R s j).journal n ≡ false
-  has_room n e h = not-true _ (sym (told n e) ∙ h)
+  has_room n e h = not-true _ (sym (tells n e) ∙ h)
 
   pub no_room : (n : ℕ) {r : Bool} → r ≡ has_places p n j → r ≡ false → lacks (books_of p R s j).journal n ≡ true
-  no_room n e h = not-false _ (sym (told n e) ∙ h)
+  no_room n e h = not-false _ (sym (tells n e) ∙ h)
 
   pub told-lacks : (m : ℕ) {n : ℕ} {r : Bool} → r ≡ has_places p m j → m ≡ n → not r ≡ lacks (books_of p R s j).journal n
   told-lacks m {n} e f =
-      ap not (told m e ∙ ap (λ (k : ℕ). not (lacks (books_of p R s j).journal k)) f) ∙ twice (lacks (books_of p R s j).journal n)
+      ap not (tells m e ∙ ap (λ (k : ℕ). not (lacks (books_of p R s j).journal k)) f) ∙ twice (lacks (books_of p R s j).journal n)
     where
       twice : (x : Bool) → not (not x) ≡ x
       twice true = refl
@@ -74,6 +82,58 @@ same-places {p} {R} {s} {j} b c cs e =
     book-length (journaled c)
     ∙ ap (journal_length p) (ap (λ (x : Books). x.journal.places) e ∙ noted-places cs (books_of p R s j).journal)
     ∙ sym (book-length (journaled b))
+
+-- ---- answers
+
+-- a refusal of the code is one
+pub refusal-refuses : (k : R.Refusal) → eqb (number_of (refusal_of k)) 0 ≡ false
+refusal-refuses V.RecordBroken = refl
+refusal-refuses V.UnknownTable = refl
+refusal-refuses V.TableExists = refl
+refusal-refuses V.EmptyTableName = refl
+refusal-refuses V.NoColumns = refl
+refusal-refuses V.KeyColumnOutOfRange = refl
+refusal-refuses V.EmptyColumnName = refl
+refusal-refuses V.KeyNullable = refl
+refusal-refuses V.KeyNotUnique = refl
+refusal-refuses V.KeyIndexed = refl
+refusal-refuses V.NullableWithoutDefault = refl
+refusal-refuses V.NullDefault = refl
+refusal-refuses V.DefaultKind = refl
+refusal-refuses V.UniqueNotIndexed = refl
+refusal-refuses V.ReferenceNotIndexed = refl
+refusal-refuses V.UnknownTarget = refl
+refusal-refuses V.TargetKind = refl
+refusal-refuses V.ColumnTwice = refl
+refusal-refuses V.TablesFull = refl
+refusal-refuses V.TableReferenced = refl
+refusal-refuses V.TooManyValues = refl
+refusal-refuses V.MapCount = refl
+refusal-refuses V.NoDefault = refl
+refusal-refuses V.MapColumn = refl
+refusal-refuses V.RowSize = refl
+refusal-refuses V.KeyUndefined = refl
+refusal-refuses V.KeyExists = refl
+refusal-refuses V.WrongKind = refl
+refusal-refuses V.NullNotAllowed = refl
+refusal-refuses V.TargetMissing = refl
+refusal-refuses V.ValueExists = refl
+refusal-refuses V.RowReferenced = refl
+refusal-refuses V.RowsFull = refl
+refusal-refuses V.RowAbsent = refl
+refusal-refuses V.KeysNotRising = refl
+refusal-refuses V.NotIndexed = refl
+refusal-refuses V.StoreUnsound = refl
+refusal-refuses V.JournalFull = refl
+refusal-refuses V.InsideBatch = refl
+refusal-refuses V.BatchOutOfTurn = refl
+
+pub told-refuses : (f : Refused) → is_accepted (told f) ≡ false
+told-refuses f = go f.carried
+  where
+    go : (x : O.Option C.Carried) → is_accepted (with_gone f.gone (no_with (refusal_of f.kind) f.at x)) ≡ false
+    go None = refusal-refuses f.kind
+    go (Some x) = refusal-refuses f.kind
 
 -- ---- both stay as they are
 

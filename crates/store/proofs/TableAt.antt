@@ -16,7 +16,6 @@ use Rattle.values.specs.declared.value.Value.TheVariants.{Null}
 use Rattle.rules.specs.declared.profile.Profile.{Profile}
 use Rattle.rules.specs.State.{Name, Table, key_of}
 use Rattle.rules.specs.Layout.{lists, Schemas, tables_count, read_table, parse}
-use Rattle.laid.specs.declared.row.Row.{Row}
 use Rattle.laid.specs.Catalog.{TableBytes, Catalog, TableName}
 use Rattle.laid.specs.Row.{cells_of, table_in, KeyColumn, FullRow}
 use Rattle.laid.specs.Store.{Inside, LaidStore}
@@ -25,7 +24,7 @@ use Rattle.laid.proofs.Columns.{columns_of, record-least}
 use Rattle.laid.proofs.RowFacts.{start-least, start-name}
 use Rattle.laid.proofs.Searching.{tables-count, table_at, table-bytes-at}
 use Rattle.laid.proofs.Stores.{held-inside}
-use Rattle.checks.proofs.Fitting.{key-within-columns, key-of-table, few-columns-8, cell-proper, key-is}
+use Rattle.checks.proofs.Fitting.{key-within-columns, key-of-table, count-columns, cell-proper, key-is}
 
 module _ (p : Profile) (R : ℕ) (s : List ℕ) (i : ℕ) where
   -- a place among those that are counted, or among the tables, is one among the records
@@ -52,7 +51,7 @@ module _ (p : Profile) (R : ℕ) (s : List ℕ) (i : ℕ) where
 
 -- ---- the table at place t of a store, as the code reads it
 
--- what stands past the end of an array of cells
+-- what stands past the end of a row
 abbrev pub blank : Cell
 blank = record { value = Null }
 
@@ -71,20 +70,19 @@ module _ {p : Profile} {R : ℕ} {s : List ℕ} (b : LaidStore p R s) (t : ℕ) 
     its-name en = en ∙ start-name p R s b t h rec er
 
     module _ {at : ℕ} (ea : at ≡ get_or rec name_width 0) where
-      -- the name was read from the record as it was lent before
-      pub its-key : {old : List ℕ} → old ≡ get_or (lists p R s).schemas t [] → {n : Name} → n ≡ read_name old → KeyColumn p R s n at
-      its-key eo {n} en = key-of-table p R s t b h rec er n (en ∙ ap read_name (eo ∙ sym er)) at ea
+      pub its-key : {n : Name} → n ≡ read_name rec → KeyColumn p R s n at
+      its-key {n} en = key-of-table p R s t b h rec er n en at ea
 
       -- the key's cell of a row that fills the table
-      module _ {row : Row} (f : FullRow p R s t row) where
+      module _ {row : List Cell} (f : FullRow p R s t row) where
         within : at < length (columns_of p rec)
         within = key-within-columns p R s t b h rec er at ea
 
-        pub key-few : at < 8
-        key-few = omega (arith, within, few-columns-8 p R s t b h rec er row f)
+        pub key-few : at < length row
+        key-few = omega (arith, within, count-columns p R s t b h rec er row f)
 
-        pub key-proper : Proper (get_or row.cells at blank).value
+        pub key-proper : Proper (get_or row at blank).value
         key-proper = cell-proper p R s t b h rec er row f at within blank
 
-        pub key-held : held (get_or row.cells at blank) ≡ key_of (table_in p R s t) (cells_of row)
+        pub key-held : held (get_or row at blank) ≡ key_of (table_in p R s t) (cells_of row)
         key-held = key-is p R s t b h rec er row f at ea blank

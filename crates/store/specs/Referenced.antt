@@ -1,10 +1,9 @@
 -- What a search for a referencing table answers. Assumes nothing.
-use Rattle.std.specs.Prelude.{cond}
-use Rattle.std.proofs.Math.Option.{Option, none, some}
-use Rattle.values.specs.Meaning.{text_bytes}
-use Rattle.values.specs.Value.{null}
-use Rattle.rules.specs.Request.{Carried, carried_by}
-use Rattle.store.specs.declared.local.Reference.{Reference}
+use Rattle.std.proofs.Math.Option.{Option, map}
+use Rattle.std.specs.declared.option.Option.{Option as Held}
+use Rattle.values.specs.Meaning.{option_of}
+use Rattle.rules.specs.declared.answer.Carried as C
+use Rattle.rules.specs.Request.{Carried, carried_of}
 
-abbrev pub reference_of : Reference → Option Carried
-reference_of r = cond r.found (some (carried_by (text_bytes r.table) r.column null)) none
+abbrev pub reference_of : Held C.Carried → Option Carried
+reference_of r = map carried_of (option_of r)

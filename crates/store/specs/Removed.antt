@@ -9,7 +9,7 @@ use Rattle.rules.specs.Journal.{lacks}
 use Rattle.rules.specs.Pages.{books_of}
 use Rattle.rules.specs.Request.{Pair}
 use Rattle.rules.specs.Step.{Change, changed, removals}
-use Rattle.laid.specs.declared.row.Row.{Row}
+use Rattle.values.specs.declared.value.Cell.{Cell}
 use Rattle.laid.specs.Row.{cells_of, table_in}
 use Rattle.journal.specs.Books.{BytesOf}
 
@@ -25,5 +25,5 @@ Removes p R s j t ks s₁ j₁ = BytesOf p R (changed (removals_in p R s t ks) (
 abbrev pub RoomFor : Profile → ℕ → List ℕ → List ℕ → ℕ → List Value → Type 0
 RoomFor p R s j t ks = lacks (books_of p R s j).journal (length (removals_in p R s t ks)) ≡ false
 
-abbrev pub pair_of : D.Value → Row → Pair
+abbrev pub pair_of : D.Value → List Cell → Pair
 pair_of old row = record { old = meaning old; row = cells_of row }

@@ -1,8 +1,9 @@
 // The catalog (local.rs: `create_table`, `drop_table`, `get_table`, `list_tables`, `table_references`).
-ghost use Rattle.std.specs.Prelude.{◌≡◌, ◌<◌, length};
+ghost use Rattle.std.specs.Prelude.{◌≡◌, ◌<◌, length, IfSome};
 ghost use Rattle.values.specs.Meaning.{text_bytes, Packed};
 ghost use Rattle.rules.specs.Layout.{read_table, parse};
 ghost use Rattle.rules.specs.Rows.{first_reference, table_referenced};
+ghost use Rattle.rules.specs.Request.{ProperCarried};
 ghost use Rattle.rules.specs.Step.{create, drop as dropped};
 ghost use Rattle.laid.specs.Store.{Store, Stored};
 ghost use Rattle.laid.specs.Catalog.{TableBytes, Catalog, found_at, TableName};
@@ -10,23 +11,13 @@ ghost use Rattle.store.specs.Referenced.{reference_of};
 
 use super::schema;
 use areas::{area, search};
-use laid::catalog::Found;
 pub use laid::catalog::get_table;
 use laid::layout::{HEADER_WIDTH, TABLES_BYTES, TABLES_COUNT};
 use laid::{catalog, layout, run};
-use rules::answer;
-use rules::answer::{Answer, Refusal};
+use rules::answer::{Answer, Carried, Refusal, Refused};
 use rules::profile::Profile;
-use values::value::{Order, Text, Value};
+use values::value::{Text, Value};
 use values::{cell, value};
-
-// The first table that references another, and its first referencing column.
-#[derive(Clone, Copy)]
-pub struct Reference {
-    pub found: bool,
-    pub table: Text,
-    pub column: usize,
-}
 
 // The name of the table at place i (local.rs: `list_tables`).
 pub fn name_at(s: &[u8], p: Profile, places: usize, i: usize) -> Text
@@ -42,17 +33,13 @@ pub fn create_table(s: &mut [u8], p: Profile, places: usize, rec: &[u8]) -> Answ
     ensures { Stored p places (create p (parse p places s.old) (read_table p rec.now)) s.old s.new result }
 {
     let name = cell::read_name(rec);
-    if let Found::At(_) = catalog::get_table(s, p, places, name) {
-        return answer::refused(Refusal::TableExists, 0);
+    if catalog::get_table(s, p, places, name).is_some() {
+        return Err(Refused::new(Refusal::TableExists, 0));
     }
-    let f = schema::validate(s, p, places, rec);
-    let k = f.kind;
-    if !answer::is_accepted(k) {
-        return answer::refused(k, f.at);
-    }
+    schema::validate(s, p, places, rec)?;
     let count = layout::table_count(s);
     if p.tables <= count {
-        return answer::refused(Refusal::TablesFull, 0);
+        return Err(Refused::new(Refusal::TablesFull, 0));
     }
     let width = layout::schema_width(p);
     let i = search::named_before(&s[HEADER_WIDTH..], count, width, name);
@@ -66,66 +53,43 @@ pub fn create_table(s: &mut [u8], p: Profile, places: usize, rec: &[u8]) -> Answ
         i,
     );
     area::write_record(s, HEADER_WIDTH, i, rec);
-    answer::accepted(0)
+    Ok(0)
 }
 
 // The first column of a table record that references `name`.
-fn first_reference(rec: &[u8], p: Profile, name: Text) -> Found
+fn first_reference(rec: &[u8], p: Profile, name: Text) -> Option<usize>
     requires { TableBytes p rec.now × Packed name }
     ensures { found_at result ≡ first_reference (text_bytes name) 0 (read_table p rec.now).columns }
 {
-    let count = rec[layout::TABLE_COUNT] as usize;
-    let mut j = 0;
-    while j < count {
-        let c = catalog::read_column(rec, p, j);
-        if c.references {
-            match value::compare_texts(name, c.reference) {
-                Order::Same => {
-                    return Found::At(j);
-                }
-                _ => {
-                    j += 1;
-                }
+    for j in 0..catalog::column_count(rec) {
+        if let Some(target) = catalog::read_column(rec, p, j).reference {
+            if value::compare_texts(name, target).is_eq() {
+                return Some(j);
             }
-        } else {
-            j += 1;
         }
     }
-    Found::Nothing
+    None
 }
 
 // 20: the first other table by name that references `name`, even an empty one.
-pub fn table_references(s: &[u8], p: Profile, places: usize, name: Text) -> Reference
+pub fn table_references(s: &[u8], p: Profile, places: usize, name: Text) -> Option<Carried>
     requires { Catalog p places s.now × Packed name }
-    ensures { (reference_of result ≡ table_referenced (text_bytes name) (parse p places s.now).tables) × Packed result.table }
+    ensures { (reference_of result ≡ table_referenced (text_bytes name) (parse p places s.now).tables) × IfSome result ProperCarried }
 {
-    let count = layout::table_count(s);
-    let mut i = 0;
-    while i < count {
+    for i in 0..layout::table_count(s) {
         let rec = layout::table_record(s, p, places, i);
-        match search::compare_named(rec, name) {
-            Order::Same => {
-                i += 1;
-            }
-            _ => match first_reference(rec, p, name) {
-                Found::At(j) => {
-                    return Reference {
-                        found: true,
-                        table: cell::read_name(rec),
-                        column: j,
-                    };
-                }
-                Found::Nothing => {
-                    i += 1;
-                }
-            },
+        if search::compare_named(rec, name).is_eq() {
+            continue;
+        }
+        if let Some(column) = first_reference(rec, p, name) {
+            return Some(Carried {
+                table: cell::read_name(rec),
+                column,
+                key: Value::Null,
+            });
         }
     }
-    Reference {
-        found: false,
-        table: name,
-        column: 0,
-    }
+    None
 }
 
 // Takes a table out of the catalog: 2 unless `lenient` (if-exists), 20; its rows and index entries go with it.
@@ -133,15 +97,15 @@ pub fn drop_table(s: &mut [u8], p: Profile, places: usize, name: Text, lenient: 
     requires { Store p places s.old × Packed name }
     ensures { Stored p places (dropped (parse p places s.old) (text_bytes name) lenient) s.old s.new result }
 {
-    let Found::At(i) = catalog::get_table(s, p, places, name) else {
-        if lenient {
-            return answer::accepted(0);
-        }
-        return answer::refused(Refusal::UnknownTable, 0);
+    let Some(i) = catalog::get_table(s, p, places, name) else {
+        return if lenient {
+            Ok(0)
+        } else {
+            Err(Refused::new(Refusal::UnknownTable, 0))
+        };
     };
-    let r = table_references(s, p, places, name);
-    if r.found {
-        return answer::carrying(Refusal::TableReferenced, 0, r.table, r.column, Value::Null);
+    if let Some(carried) = table_references(s, p, places, name) {
+        return Err(Refused::carrying(Refusal::TableReferenced, 0, carried));
     }
     run::drop_entries(s, p, places, name);
     run::drop_rows(s, p, places, name);
@@ -155,5 +119,5 @@ pub fn drop_table(s: &mut [u8], p: Profile, places: usize, name: Text, lenient: 
         i,
         1,
     );
-    answer::accepted(1)
+    Ok(1)
 }

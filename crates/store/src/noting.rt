@@ -8,22 +8,19 @@ ghost use Rattle.laid.specs.Row.{cells_of, row_in, table_in, FullRow};
 ghost use Rattle.journal.specs.Page.{Roomy, Noted};
 
 use journal::page;
-use laid::row::Row;
 use laid::{catalog, layout};
 use rules::profile::Profile;
 use values::cell;
+use values::value::Cell;
 
 // That no row has the key of a row of the table at place t.
-pub fn note_new(s: &[u8], p: Profile, places: usize, j: &mut [u8], t: usize, row: Row)
-    requires { LaidStore p places s.now × FullRow p places s.now t row × Roomy p j.old }
-    ensures { Noted p (absent (table_in p places s.now t).name (key_of (table_in p places s.now t) (cells_of row))) j.old j.new }
+pub fn note_new(s: &[u8], p: Profile, places: usize, j: &mut [u8], t: usize, row: &[Cell])
+    requires { LaidStore p places s.now × FullRow p places s.now t row.now × Roomy p j.old }
+    ensures { Noted p (absent (table_in p places s.now t).name (key_of (table_in p places s.now t) (cells_of row.now))) j.old j.new }
 {
-    let name = cell::read_name(layout::table_record(s, p, places, t));
-    let column = catalog::key_column(layout::table_record(s, p, places, t));
-    let cells = row.cells;
-    let k = cells[column];
-    let key = k.value;
-    page::note_absent(j, p, name, key);
+    let rec = layout::table_record(s, p, places, t);
+    let key = row[catalog::key_column(rec)].value;
+    page::note_absent(j, p, cell::read_name(rec), key);
 }
 
 // The row at place i.

@@ -8,29 +8,24 @@ ghost use Rattle.rules.specs.Step.{is_indexed, lookup};
 ghost use Rattle.laid.specs.Store.{LaidStore};
 ghost use Rattle.laid.specs.Catalog.{place_of, found_at};
 ghost use Rattle.laid.specs.Row.{table_in};
-ghost use Rattle.checks.specs.Keys.{values_from};
+ghost use Rattle.checks.specs.Keys.{values_of};
 
-use laid::catalog::Found;
+use checks::keys::Values;
 use laid::{catalog, layout, row};
-use rules::answer;
-use rules::answer::{Answer, Refusal};
+use rules::answer::{Answer, Refusal, Refused};
 use rules::profile::Profile;
 use values::value::{Text, Value};
 use walks::walk;
 pub use walks::walk::scan;
 
 // The place of the row with this key; an unknown table has no rows.
-pub fn get(s: &[u8], p: Profile, places: usize, name: Text, key: Value) -> Found
+pub fn get(s: &[u8], p: Profile, places: usize, name: Text, key: Value) -> Option<usize>
     requires { LaidStore p places s.now × Packed name × Proper key }
     ensures { found_at result ≡ place_of (is_row (text_bytes name) (meaning key)) (parse p places s.now).rows }
 {
-    match catalog::get_table(s, p, places, name) {
-        Found::Nothing => Found::Nothing,
-        Found::At(t) => {
-            let column = catalog::key_column(layout::table_record(s, p, places, t));
-            row::find_row(s, p, places, name, column, key)
-        }
-    }
+    let t = catalog::get_table(s, p, places, name)?;
+    let column = catalog::key_column(layout::table_record(s, p, places, t));
+    row::find_row(s, p, places, name, column, key)
 }
 
 // Whether a column of the table at place t is indexed; a column out of range is not.
@@ -39,11 +34,7 @@ pub fn is_indexed(s: &[u8], p: Profile, places: usize, t: usize, column: usize) 
     ensures { result ≡ is_indexed (table_in p places s.now t) column }
 {
     let rec = layout::table_record(s, p, places, t);
-    if catalog::column_count(rec) <= column {
-        return false;
-    }
-    let c = catalog::read_column(rec, p, column);
-    c.index
+    column < catalog::column_count(rec) && catalog::read_column(rec, p, column).index
 }
 
 // Lookup's answer: 2; 37; the number of keys.
@@ -53,18 +44,16 @@ pub fn lookup_index(
     places: usize,
     name: Text,
     column: u8,
-    rec: &[u8],
-    at: usize,
-    count: usize,
+    values: Values<'_>,
 ) -> Answer
     requires { LaidStore p places s.now × Packed name }
-    ensures { said result ≡ (lookup (parse p places s.now) (text_bytes name) column (values_from rec.now count at)).reply }
+    ensures { said result ≡ (lookup (parse p places s.now) (text_bytes name) column (values_of values.entry)).reply }
 {
-    let Found::At(t) = catalog::get_table(s, p, places, name) else {
-        return answer::refused(Refusal::UnknownTable, 0);
+    let Some(t) = catalog::get_table(s, p, places, name) else {
+        return Err(Refused::new(Refusal::UnknownTable, 0));
     };
-    if !is_indexed(s, p, places, t, column as usize) {
-        return answer::refused(Refusal::NotIndexed, 0);
+    if !is_indexed(s, p, places, t, usize::from(column)) {
+        return Err(Refused::new(Refusal::NotIndexed, 0));
     }
-    answer::accepted(walk::key_count(s, p, places, name, column, rec, at, count))
+    Ok(walk::key_count(s, p, places, name, column, values))
 }

@@ -9,70 +9,46 @@ ghost use Rattle.rules.specs.Pages.{books_of};
 ghost use Rattle.laid.specs.Store.{LaidStore};
 ghost use Rattle.laid.specs.Row.{KeyColumn};
 ghost use Rattle.journal.specs.Books.{LaidBooks};
-ghost use Rattle.checks.specs.Keys.{values_from};
+ghost use Rattle.checks.specs.Keys.{values_of};
 ghost use Rattle.store.specs.Removed.{removals_in};
 
+use checks::keys::Values;
 use checks::{keys, row_fault};
-use forms::read;
-use forms::read::ReadCell;
 use journal::page;
 use laid::{catalog, layout};
 use rules::profile::Profile;
 use values::cell;
 use values::value::{Text, Value};
 
-// Whether a row of the table has the key, and the key is not among the `count` keys from `at` on in a record.
+// Whether a row of the table has the key, and the key is not among those values.
 fn is_counted(
     s: &[u8],
     p: Profile,
     places: usize,
     name: Text,
     column: usize,
-    rec: &[u8],
-    at: usize,
-    count: usize,
+    values: Values<'_>,
     key: Value,
 ) -> bool
     requires { LaidStore p places s.now × KeyColumn p places s.now (text_bytes name) column × Packed name × Proper key }
-    ensures { result ≡ (not (among (meaning key) (values_from rec.now count at)) && has_row (parse p places s.now).rows (text_bytes name) (meaning key)) }
+    ensures { result ≡ (not (among (meaning key) (values_of values.entry)) && has_row (parse p places s.now).rows (text_bytes name) (meaning key)) }
 {
-    if keys::is_among(rec, at, count, key) {
-        return false;
-    }
-    row_fault::is_stored(s, p, places, name, column, key)
+    !keys::is_among(values, key) && row_fault::is_stored(s, p, places, name, column, key)
 }
 
-// How many rows of the table at place t go with the `count` keys from `at` on in a record: a stored row counts with the last of its keys.
-fn removal_count(
-    s: &[u8],
-    p: Profile,
-    places: usize,
-    t: usize,
-    rec: &[u8],
-    at: usize,
-    count: usize,
-) -> usize
+// How many rows of the table at place t go with the keys: a stored row counts with the last of its keys.
+fn removal_count(s: &[u8], p: Profile, places: usize, t: usize, values: Values<'_>) -> usize
     requires { LaidStore p places s.now × (t < length (parse p places s.now).tables) }
-    ensures { result ≡ length (removals_in p places s.now t (values_from rec.now count at)) }
+    ensures { result ≡ length (removals_in p places s.now t (values_of values.entry)) }
 {
-    let name = cell::read_name(layout::table_record(s, p, places, t));
-    let column = catalog::key_column(layout::table_record(s, p, places, t));
+    let rec = layout::table_record(s, p, places, t);
+    let name = cell::read_name(rec);
+    let column = catalog::key_column(rec);
+    let mut keys = values;
     let mut rows = 0;
-    let mut left = count;
-    let mut next = at;
-    while 0 < left {
-        left -= 1;
-        match read::value_at(rec, next) {
-            ReadCell::Got { cell, next: end } => {
-                let key = cell.value;
-                if is_counted(s, p, places, name, column, rec, end, left, key) {
-                    rows += 1;
-                }
-                next = end;
-            }
-            ReadCell::Broken(_) => {
-                return rows;
-            }
+    while let Some(cell) = keys.next() {
+        if is_counted(s, p, places, name, column, keys, cell.value) {
+            rows += 1;
         }
     }
     rows
@@ -85,15 +61,11 @@ pub fn lacks_places(
     places: usize,
     j: &[u8],
     t: usize,
-    rec: &[u8],
-    at: usize,
-    count: usize,
+    values: Values<'_>,
 ) -> bool
     requires { LaidBooks p places s.now j.now × (t < length (parse p places s.now).tables) }
-    ensures { result ≡ lacks (books_of p places s.now j.now).journal (length (removals_in p places s.now t (values_from rec.now count at))) }
+    ensures { result ≡ lacks (books_of p places s.now j.now).journal (length (removals_in p places s.now t (values_of values.entry))) }
 {
-    if page::has_places(j, p, count) {
-        return false;
-    }
-    !page::has_places(j, p, removal_count(s, p, places, t, rec, at, count))
+    !page::has_places(j, p, values.count)
+        && !page::has_places(j, p, removal_count(s, p, places, t, values))
 }

@@ -2,16 +2,17 @@
 use mathlib.Core.Path.{◌≡◌, refl, sym, ap, ◌∙◌}
 use mathlib.Core.Bool.{Bool, true, false, cond}
 use mathlib.Core.List.{List, [], ◌∷◌, ◌++◌, append_assoc, append-nil}
-use Prim.Native.Nat.{ℕ, zero, suc, ◌+◌, ◌-◌, ◌^◌, ◌≤◌, ◌<◌}
+use Prim.Native.Nat.{ℕ, zero, suc, ◌+◌, ◌-◌, ◌*◌, ◌%◌, ◌^◌, ◌≤◌, ◌<◌, min}
 use native.Mathlib.Nat.{pow-le-pow_right}
+use native.Mathlib.Numerals.{unary_clauses}
 use native.Mathlib.Omega.{arith}
 use lib.Dec.{eqb}
 use lib.ListN.{length, get_or, take, drop, replicate, length-take, length-drop}
-use lib.Seq.{take_at, take_all, take-take, get_or-drop}
+use lib.Seq.{take_at, take-take, get_or-drop}
 use lib.Ieee.{binary64}
 use lib.Ieee.Bits.{to_bits-lt}
 use mir.Syntax.{w64}
-use mir.Val.{of_z, to_z}
+use mir.Val.{of_z, to_z, bool_byte}
 use mir.ValLaws.{to_z-of_z, to_z-Fits, of_z_fits}
 use Rattle.values.specs.Bytes.{be, num, pad, leqb, Bytes}
 use Rattle.values.specs.Value.{Value, null, boolean, integer, float, text, text_most, normal_bits, normalised}
@@ -36,13 +37,17 @@ unfolding read_name name_cell
 name_back n rest h = rw (take_at (pad text_most n) rest text_most (length-pad text_most n h)) (take-pad text_most n)
 
 -- a length above 24 counts as 24
-pub name-clipped : (s : List ℕ) → text_most < get_or s 0 0 → read_name s ≡ take text_most (drop 1 s)
+pub name-clipped : (s : List ℕ) (n k : ℕ) → n ≡ get_or s 0 0 → k ≡ min text_most n → take (k + 1 - 1) (drop 1 s) ≡ read_name s
 unfolding read_name
-name-clipped s h = take_all (get_or s 0 0) (take text_most (drop 1 s)) (simp length-take (omega arith))
-
-pub name-whole : (s : List ℕ) → get_or s 0 0 ≤ text_most → read_name s ≡ take (get_or s 0 0) (drop 1 s)
-unfolding read_name
-name-whole s h = take-take (get_or s 0 0) text_most (drop 1 s) h
+name-clipped s n k e f =
+    let g : k + 1 - 1 ≡ min (get_or s 0 0) text_most = omega arith in
+    rw g (sym (nested (get_or s 0 0) text_most (drop 1 s)))
+  where
+    nested : (i j : ℕ) (xs : List ℕ) → take i (take j xs) ≡ take (min i j) xs
+    nested zero j xs = simp unary_clauses
+    nested (suc i) zero xs = simp unary_clauses
+    nested (suc i) (suc j) [] = simp unary_clauses
+    nested (suc i) (suc j) (x ∷ xs) = simp unary_clauses (ap (λ (l : List ℕ). x ∷ l) (nested i j xs))
 
 pub read-name-short : (s : List ℕ) → length (read_name s) ≤ text_most
 unfolding read_name
@@ -85,6 +90,15 @@ value-normal w (text t) = refl
 pub length-value : (w : ℕ) (v : Value) → Storable w v → length (value_cell w v) ≡ w
 unfolding value_cell
 length-value w v h = let r = h.room in ap (λ (n : ℕ). suc (suc n)) (length-pad (w - 2) (content v) (omega arith)) ∙ omega arith
+
+-- a kind and a word, as `write_word` writes them
+abbrev pub raw : ℕ → ℕ → List ℕ
+raw k w = k ∷ 0 ∷ be 8 w (replicate 16 0)
+
+pub raw-boolean : (b : Bool) → raw 1 (bool_byte b * 2 ^ 56 % 2 ^ 64) ≡ value_cell cell_width (boolean b)
+unfolding value_cell content be pad
+raw-boolean true = refl
+raw-boolean false = refl
 
 -- NULL is all zeros
 pub null-zeros : (w : ℕ) → 2 ≤ w → value_cell w null ≡ replicate w 0

@@ -13,8 +13,13 @@ use lib.Dec.{T, compare_is_eq, eqb, ltb, eqb→eq, nltb→le}
 use lib.IntN.{ℤ, pos, negsuc}
 use lib.Signed.{lt_z}
 use borrow.Author.Tests.{lt-ltb, le-ltb}
+use Rattle.std.specs.Ordering as Std
+use Rattle.std.specs.Ordering.{ordering_then, nat_cmp, int_cmp, bool_cmp}
+use Rattle.std.specs.declared.cmp.Ordering.{Ordering as Compared}
+use Rattle.std.specs.declared.cmp.Ordering.TheVariants.{Less, Equal, Greater}
 use Rattle.values.specs.Basic.{and_then, is_lt, cmpℤ, cmp_bytes}
 use Rattle.values.specs.Value.{Value, null, boolean, integer, float, text, normal_bits, normalised, kind_of, signed_bits, number_of, bytes_of, cmp_value, same, before}
+use Rattle.values.specs.Meaning.{ordering}
 use Rattle.values.proofs.Floats.{normal-twice}
 
 abbrev pub opp : Ordering → Ordering
@@ -49,7 +54,7 @@ module _ {A : Type 0} {cmp : A → A → Ordering} (O : Ord cmp) where
       go eq h = refl
       go gt h = cc
 
-  -- what two tests of before tell
+  -- what a test of before tells
   pub lt_at : (a b : A) → is_lt (cmp a b) ≡ true → cmp a b ≡ lt
   lt_at a b h = less (cmp a b) h
     where
@@ -57,17 +62,6 @@ module _ {A : Type 0} {cmp : A → A → Ordering} (O : Ord cmp) where
       less lt h = refl
       less eq h = cc
       less gt h = cc
-
-  pub gt-at : (a b : A) → is_lt (cmp b a) ≡ true → cmp a b ≡ gt
-  gt-at a b h = O.flip b a ∙ ap opp (lt_at b a h)
-
-  pub eq-at : (a b : A) → is_lt (cmp a b) ≡ false → is_lt (cmp b a) ≡ false → cmp a b ≡ eq
-  eq-at a b h k = neither (cmp a b) h (rw (O.flip a b) at k)
-    where
-      neither : (o : Ordering) → is_lt o ≡ false → is_lt (opp o) ≡ false → o ≡ eq
-      neither lt h k = cc
-      neither eq h k = refl
-      neither gt h k = cc
 
 -- by a part of each side
 pub pull : {A B : Type 0} {cmp : B → B → Ordering} (f : A → B) → Ord cmp → Ord (λ (a b : A). cmp (f a) (f b))
@@ -89,6 +83,11 @@ pub and-eq : (o : Ordering) → and_then o eq ≡ o
 and-eq lt = refl
 and-eq eq = refl
 and-eq gt = refl
+
+pub and_assoc : (o p q : Ordering) → and_then (and_then o p) q ≡ and_then o (and_then p q)
+and_assoc lt p q = refl
+and_assoc eq p q = refl
+and_assoc gt p q = refl
 
 pub fst-eq : (o p : Ordering) → and_then o p ≡ eq → o ≡ eq
 fst-eq lt p h = h
@@ -353,3 +352,48 @@ never_both v w h k =
 
 pub never-before-itself : (v : Value) → before v v ≡ true → ⊥
 never-before-itself v h = never_both v v h h
+
+-- ---- std's comparisons and tests of an ordering
+
+pub is_eq-ordering : (o : Compared) → Std.is_eq o ≡ compare_is_eq (ordering o)
+is_eq-ordering Less = refl
+is_eq-ordering Equal = refl
+is_eq-ordering Greater = refl
+
+pub is_lt-ordering : (o : Compared) → Std.is_lt o ≡ is_lt (ordering o)
+is_lt-ordering Less = refl
+is_lt-ordering Equal = refl
+is_lt-ordering Greater = refl
+
+pub then-ordering : (o p : Compared) → ordering (ordering_then o p) ≡ and_then (ordering o) (ordering p)
+then-ordering Less p = refl
+then-ordering Equal p = refl
+then-ordering Greater p = refl
+
+pub cmpℕ-ordering : (a b : ℕ) → ordering (nat_cmp a b) ≡ compare a b
+cmpℕ-ordering a b = go (tri a b)
+  where
+    go : Tri a b → ordering (nat_cmp a b) ≡ compare a b
+    go (less h) = rw (of_lt a b h, lt-ltb a b h)
+    go (level h) = rw (of_eq a b h, le-ltb a b (omega arith))
+    go (more h) = rw (of-gt a b h, le-ltb a b (omega arith))
+
+signed : (a b : ℕ) → ordering (cond (ltb a b) Less (cond (ltb b a) Greater Equal)) ≡ compare a b
+signed a b = go (tri a b)
+  where
+    go : Tri a b → ordering (cond (ltb a b) Less (cond (ltb b a) Greater Equal)) ≡ compare a b
+    go (less h) = rw (of_lt a b h, lt-ltb a b h)
+    go (level h) = rw (of_eq a b h, le-ltb a b (omega arith), le-ltb b a (omega arith))
+    go (more h) = rw (of-gt a b h, le-ltb a b (omega arith), lt-ltb b a h)
+
+pub cmpℤ-ordering : (a b : ℤ) → ordering (int_cmp a b) ≡ cmpℤ a b
+cmpℤ-ordering (pos a) (pos b) = signed a b
+cmpℤ-ordering (pos a) (negsuc b) = refl
+cmpℤ-ordering (negsuc a) (pos b) = refl
+cmpℤ-ordering (negsuc a) (negsuc b) = signed b a
+
+pub cmp-bool-ordering : (a b : Bool) → ordering (bool_cmp a b) ≡ compare (cond a 1 0) (cond b 1 0)
+cmp-bool-ordering false false = refl
+cmp-bool-ordering false true = refl
+cmp-bool-ordering true false = refl
+cmp-bool-ordering true true = refl

@@ -1,21 +1,20 @@
 -- Padded bytes, and a text's three words: they are its bytes padded to 24. Assumes nothing.
 use mathlib.Core.Path.{◌≡◌, refl, sym, ap, ◌∙◌}
 use mathlib.Core.Bool.{true}
-use mathlib.Core.List.{List, [], ◌∷◌, ◌++◌}
-use Prim.Native.Nat.{ℕ, zero, suc, ◌+◌, ◌-◌, ◌*◌, ◌/◌, ◌%◌, ◌^◌, ◌≤◌, ◌<◌}
-use native.Mathlib.Numerals.{add-one}
+use mathlib.Core.List.{List, [], ◌∷◌, ◌++◌, append-nil}
+use Prim.Native.Nat.{ℕ, zero, suc, ◌+◌, ◌-◌, ◌/◌, ◌%◌, ◌^◌, ◌≤◌, ◌<◌}
 use native.Mathlib.Omega.{arith}
 use borrow.Author.Tests.{eqb-true}
-use lib.Arith.{digits_div, digits_mod}
 use lib.Dec.{eqb}
 use lib.ListN.{length, get_or, take, drop, replicate, length-append, length-replicate, length-drop, take-append-drop}
-use lib.Seq.{take_at, drop_at, take_all, take-suc, drop-drop, get_or-drop, length-take-le}
-use Rattle.values.specs.Bytes.{be, pad, zeros, Bytes}
+use lib.Seq.{take_at, drop_at, take_all, drop-drop, get_or-drop, length-take-le}
+use Rattle.values.specs.Bytes.{be, num, pad, zeros, Bytes}
 use Rattle.values.specs.Value.{text_most}
 use Rattle.values.specs.Meaning.{words, text_bytes, Packed}
 use Rattle.values.specs.Cell.{name_cell}
 use Rattle.values.specs.declared.value.Text.{Text}
 use Rattle.values.proofs.Scans.{and-true}
+use Rattle.values.proofs.Numbers.{be-num}
 use Rattle.values.proofs.Parts.{be-append}
 
 -- ---- zeros
@@ -39,10 +38,6 @@ replicate-zeros (suc n) = replicate-zeros n
 pub length-pad : (k : ℕ) (l : List ℕ) → length l ≤ k → length (pad k l) ≡ k
 unfolding pad
 length-pad k l h = simp (length-append, length-replicate) (omega arith)
-
-pub pad-least : (k : ℕ) (l : List ℕ) → k ≤ length (pad k l)
-unfolding pad
-pad-least k l = simp (length-append, length-replicate) (omega arith)
 
 pub take-pad : (k : ℕ) (l : List ℕ) → take (length l) (pad k l) ≡ l
 unfolding pad
@@ -68,19 +63,11 @@ get_or-pad k l i = go (k - length l) l i
 
 -- ---- eight bytes as a word
 
-be-byte : (i w b : ℕ) (r : List ℕ) → b < 256 → be (suc i) (w * 256 + b) r ≡ be i w (b ∷ r)
+eight : (t : List ℕ) → Bytes t → length t ≡ 8 → be 8 (num 0 t) [] ≡ t
 unfolding be
-be-byte i w b r l = rw (digits_div w {m = 256} {r = b} l, digits_mod w {m = 256} {r = b} l)
-
--- a byte more
-pub word-step : (s : List ℕ) (k i w b : ℕ) → k + i < 24 → b < 256 → b ≡ get_or s (k + i) 0 → be i w [] ≡ take i (drop k (pad text_most s))
-    → be (i + 1) (w * 256 + b) [] ≡ take (i + 1) (drop k (pad text_most s))
-word-step s k i w b h l e r =
-    let p : i < length (drop k (pad text_most s)) = rw length-drop (omega (arith, pad-least text_most s)) in
-    let g : get_or (drop k (pad text_most s)) i 0 ≡ b = get_or-drop k (pad text_most s) i 0 ∙ get_or-pad text_most s (k + i) ∙ sym e in
-    rw add-one
-    (be-byte i w b [] l ∙ be-append i w [] (b ∷ []) ∙ ap (λ (t : List ℕ). t ++ (b ∷ [])) r ∙ ap (λ (x : ℕ). take i (drop k (pad text_most s)) ++ (x ∷ [])) (sym g)
-    ∙ sym (take-suc (drop k (pad text_most s)) i 0 p))
+eight t h e =
+    let k : 8 ≡ 0 + length t = omega arith in
+    ap (λ (k : ℕ). be k (num 0 t) []) k ∙ be-num t 0 0 [] h ∙ append-nil t
 
 -- ---- texts
 
@@ -102,29 +89,6 @@ words-pad t p =
 pub name-cell : (t : Text) → Packed t → t.len ∷ words t ≡ name_cell (text_bytes t)
 unfolding name_cell
 name-cell t p = ap (λ (n : ℕ). n ∷ words t) (sym (text-long t p)) ∙ ap (λ (l : List ℕ). length (text_bytes t) ∷ l) (words-pad t p)
-
--- three words that hold padded bytes
-three : (p : List ℕ) (a b c : ℕ) → length p ≡ 24 → be 8 a [] ≡ take 8 (drop 0 p) → be 8 b [] ≡ take 8 (drop 8 p) → be 8 c [] ≡ take 8 (drop 16 p)
-    → be 8 a (be 8 b (be 8 c [])) ≡ p
-three p a b c l ea eb ec =
-    be-append 8 a [] (be 8 b (be 8 c [])) ∙ ap (λ (x : List ℕ). be 8 a [] ++ x) (be-append 8 b [] (be 8 c []))
-    ∙ rw (ea, eb, ec ∙ take_all 8 (drop 16 p) (rw length-drop (omega arith)) ∙ sym (drop-drop 8 8 p), take-append-drop 8 (drop 8 p)) (take-append-drop 8 p)
-
-pub packed-of : (s : List ℕ) (t : Text) → length s ≤ text_most → t.len ≡ length s
-    → be 8 t.a [] ≡ take 8 (drop 0 (pad text_most s)) → be 8 t.b [] ≡ take 8 (drop 8 (pad text_most s)) → be 8 t.c [] ≡ take 8 (drop 16 (pad text_most s))
-    → t.a < 2 ^ 64 → t.b < 2 ^ 64 → t.c < 2 ^ 64 → (text_bytes t ≡ s) × Packed t
-unfolding text_bytes words
-packed-of s t h n ea eb ec la lb lc =
-    let w : words t ≡ pad text_most s = three (pad text_most s) t.a t.b t.c (length-pad text_most s h) ea eb ec in (
-      rw (w, n) (take-pad text_most s),
-      record {
-        short = rw n h;
-        tail = rw (w, n, drop-pad text_most s) (replicate-zeros (text_most - length s));
-        a-fits = la;
-        b-fits = lb;
-        c-fits = lc;
-      },
-    )
 
 -- ---- a text's bytes are bytes
 
@@ -149,3 +113,49 @@ drop-bytes n s h i = rw get_or-drop (h (n + i))
 pub text-bytes : (t : Text) → Bytes (text_bytes t)
 unfolding text_bytes words
 text-bytes t = take-bytes t.len (words t) (be-bytes 8 t.a (be 8 t.b (be 8 t.c [])) (be-bytes 8 t.b (be 8 t.c []) (be-bytes 8 t.c [] (λ i. omega arith))))
+
+-- ---- the text of some bytes
+
+pub pad-bytes : (k : ℕ) (s : List ℕ) → Bytes s → Bytes (pad k s)
+pad-bytes k s h i = rw (get_or-pad k s i) (h i)
+
+-- the words of the bytes p
+three : (p : List ℕ) → Bytes p → length p ≡ 24 → be 8 (num 0 (take 8 p)) (be 8 (num 0 (take 8 (drop 8 p))) (be 8 (num 0 (take 8 (drop 16 p))) [])) ≡ p
+three p h l =
+    be-append 8 a [] (be 8 b (be 8 c [])) ∙ ap (λ (x : List ℕ). be 8 a [] ++ x) (be-append 8 b [] (be 8 c []))
+    ∙ rw (
+      part 0 (omega arith),
+      part 8 (omega arith),
+      part 16 (omega arith) ∙ take_all 8 (drop 16 p) (rw length-drop (omega arith)) ∙ sym (drop-drop 8 8 p),
+      take-append-drop 8 (drop 8 p),
+    ) (take-append-drop 8 p)
+  where
+    a : ℕ
+    a = num 0 (take 8 p)
+
+    b : ℕ
+    b = num 0 (take 8 (drop 8 p))
+
+    c : ℕ
+    c = num 0 (take 8 (drop 16 p))
+
+    part : (k : ℕ) → k + 8 ≤ length p → be 8 (num 0 (take 8 (drop k p))) [] ≡ take 8 (drop k p)
+    part k f = eight (take 8 (drop k p)) (take-bytes 8 (drop k p) (drop-bytes k p h)) (length-take-le 8 (drop k p) (rw length-drop (omega arith)))
+
+pub packed-of : (s p : List ℕ) (a b c : ℕ) → Bytes s → length s ≤ text_most → p ≡ pad text_most s
+    → a ≡ num 0 (take 8 p) → b ≡ num 0 (take 8 (drop 8 p)) → c ≡ num 0 (take 8 (drop 16 p))
+    → a < 2 ^ 64 → b < 2 ^ 64 → c < 2 ^ 64
+    → (text_bytes (record { a = a; b = b; c = c; len = length s }) ≡ s) × Packed (record { a = a; b = b; c = c; len = length s })
+unfolding text_bytes words
+packed-of s p a b c y h q ea eb ec la lb lc =
+    let w : be 8 a (be 8 b (be 8 c [])) ≡ pad text_most s =
+    rw (ea, eb, ec, q) (three (pad text_most s) (pad-bytes text_most s y) (length-pad text_most s h)) in (
+      rw w (take-pad text_most s),
+      record {
+        short = h;
+        tail = rw (w, drop-pad text_most s) (replicate-zeros (text_most - length s));
+        a-fits = la;
+        b-fits = lb;
+        c-fits = lc;
+      },
+    )

@@ -18,14 +18,9 @@ use Rattle.values.specs.Meaning.{words, text_bytes, Packed}
 use Rattle.values.specs.declared.value.Text.{Text}
 use Rattle.values.proofs.Scans.{and-true}
 use Rattle.values.proofs.Packing.{zeros-are, words_long}
-use Rattle.values.proofs.Orders.{opp, opp-and_then, ord_bytes, self, of_lt, of_eq, of-gt, Tri, less, level, more, tri, passes, decides}
+use Rattle.values.proofs.Orders.{opp, opp-and_then, ord_bytes, self, of_lt, of_eq, of-gt, Tri, less, level, more, tri, passes, and_assoc}
 
 -- ---- numbers of k bytes
-
-and_assoc : (o p q : Ordering) → and_then (and_then o p) q ≡ and_then o (and_then p q)
-and_assoc lt p q = refl
-and_assoc eq p q = refl
-and_assoc gt p q = refl
 
 two_digits : (a b : ℕ) (o : Ordering) → and_then (compare (a / 256) (b / 256)) (and_then (compare (a % 256) (b % 256)) o) ≡ and_then (compare a b) o
 two_digits a b o = go (tri (a / 256) (b / 256)) (tri (a % 256) (b % 256))
@@ -91,7 +86,7 @@ by-words x y p q =
     ∙ ap (and_then (compare x.a y.a))
     (cmp-be 8 x.b y.b (be 8 x.c []) (be 8 y.c []) p.b-fits q.b-fits ∙ ap (and_then (compare x.b y.b)) (cmp-be 8 x.c y.c [] [] p.c-fits q.c-fits))
 
-text-order : (x y : Text) → Packed x → Packed y
+pub text-order : (x y : Text) → Packed x → Packed y
     → cmp_bytes (text_bytes x) (text_bytes y)
     ≡ and_then (compare x.a y.a) (and_then (compare x.b y.b) (and_then (compare x.c y.c) (compare x.len y.len)))
 unfolding text_bytes
@@ -112,17 +107,3 @@ text-order x y p q =
     flat eq eq lt r = refl
     flat eq eq eq r = refl
     flat eq eq gt r = refl
-
--- what decides: the first word that differs, or the lengths
-module _ (x y : Text) (p : Packed x) (q : Packed y) (o : Ordering) where
-  pub by_first : (x.a ≡ y.a → ⊥) → o ≡ compare x.a y.a → o ≡ cmp_bytes (text_bytes x) (text_bytes y)
-  by_first n h = h ∙ sym (text-order x y p q ∙ decides x.a y.a _ n)
-
-  pub by-second : x.a ≡ y.a → (x.b ≡ y.b → ⊥) → o ≡ compare x.b y.b → o ≡ cmp_bytes (text_bytes x) (text_bytes y)
-  by-second e n h = h ∙ sym (text-order x y p q ∙ passes x.a y.a _ e ∙ decides x.b y.b _ n)
-
-  pub by-third : x.a ≡ y.a → x.b ≡ y.b → (x.c ≡ y.c → ⊥) → o ≡ compare x.c y.c → o ≡ cmp_bytes (text_bytes x) (text_bytes y)
-  by-third e f n h = h ∙ sym (text-order x y p q ∙ passes x.a y.a _ e ∙ passes x.b y.b _ f ∙ decides x.c y.c _ n)
-
-  pub by_length : x.a ≡ y.a → x.b ≡ y.b → x.c ≡ y.c → o ≡ compare x.len y.len → o ≡ cmp_bytes (text_bytes x) (text_bytes y)
-  by_length e f g h = h ∙ sym (text-order x y p q ∙ passes x.a y.a _ e ∙ passes x.b y.b _ f ∙ passes x.c y.c _ g)

@@ -12,8 +12,11 @@ use Rattle.values.specs.declared.value.Text.{Text}
 use Rattle.values.specs.declared.value.Cell.{Cell}
 use Rattle.values.specs.declared.value.Value as D
 use Rattle.values.specs.declared.value.Value.TheVariants.{Null, Boolean, Integer, Float, Text as Words}
-use Rattle.values.specs.declared.value.Order.{Order}
-use Rattle.values.specs.declared.value.Order.TheVariants.{Less, Same, More}
+use Rattle.std.specs.declared.cmp.Ordering.{Ordering as Compared}
+use Rattle.std.specs.declared.cmp.Ordering.TheVariants.{Less, Equal, Greater}
+use Rattle.std.specs.declared.option.Option.{Option as Held}
+use Rattle.std.specs.declared.option.Option.TheVariants.{None, Some}
+use Rattle.std.proofs.Math.Option.{Option, none, some}
 
 -- the 24 bytes of a text's three words
 unfoldable pub words : Text → List ℕ
@@ -54,7 +57,12 @@ held c = meaning c.value
 abbrev pub ProperCell : Cell → Type 0
 ProperCell c = Proper c.value
 
-abbrev pub ordering : Order → Ordering
+abbrev pub ordering : Compared → Ordering
 ordering Less = Ordering.lt
-ordering Same = Ordering.eq
-ordering More = Ordering.gt
+ordering Equal = Ordering.eq
+ordering Greater = Ordering.gt
+
+-- the code's option
+abbrev pub option_of : {A : Type 0} → Held A → Option A
+option_of None = none
+option_of (Some a) = some a

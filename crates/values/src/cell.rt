@@ -17,37 +17,17 @@ pub const NAME_WIDTH: usize = TEXT_MOST + 1;
 // A value's cell: the kind's number, and its content.
 pub const CELL_WIDTH: usize = NAME_WIDTH + 1;
 
-// Eight bytes of s from k on as a word, zeros past the end.
-fn word_at(s: &[u8], k: usize) -> u64
-    requires { k ≤ 16 }
-    ensures { be 8 result [] ≡ take 8 (drop k (pad text_most s.now)) }
-{
-    let mut i: usize = 0;
-    let mut w: u64 = 0;
-    while i < 8 {
-        let p = k + i;
-        let mut b: u64 = 0;
-        if p < s.len() {
-            b = bytes::wide(s[p]);
-        }
-        w = w * 256 + b;
-        i += 1;
-    }
-    w
-}
-
 // The bytes of s as a text.
 pub fn text_of(s: &[u8]) -> Text
     requires { length s.now ≤ text_most }
     ensures { (text_bytes result ≡ s.now) × Packed result }
 {
-    let a = word_at(s, 0);
-    let b = word_at(s, 8);
-    let c = word_at(s, 16);
+    let mut padded = [0; TEXT_MOST];
+    padded[..s.len()].copy_from_slice(s);
     Text {
-        a,
-        b,
-        c,
+        a: bytes::get(&padded[..8]),
+        b: bytes::get(&padded[8..16]),
+        c: bytes::get(&padded[16..]),
         len: s.len() as u8,
     }
 }
@@ -67,12 +47,8 @@ pub fn read_name(s: &[u8]) -> Text
     requires { name_width ≤ length s.now }
     ensures { (text_bytes result ≡ read_name s.now) × Packed result }
 {
-    let n = s[0] as usize;
-    if TEXT_MOST < n {
-        return text_of(&s[1..NAME_WIDTH]);
-    }
-    let end = n + 1;
-    text_of(&s[1..end])
+    let n = TEXT_MOST.min(usize::from(s[0]));
+    text_of(&s[1..n + 1])
 }
 
 // Whether the bytes are a name's cell: they are those of the cell of what they are read as.
@@ -80,7 +56,7 @@ pub fn is_name_cell(s: &[u8]) -> bool
     requires { length s.now ≡ name_width }
     ensures { result ≡ is_name_cell s.now }
 {
-    let mut own = [0u8; 25];
+    let mut own = [0; NAME_WIDTH];
     write_name(&mut own, read_name(s));
     bytes::same_bytes(&own, s)
 }
@@ -100,16 +76,9 @@ pub fn write_cell(out: &mut [u8], c: Cell)
     requires { (length out.old ≡ cell_width) × ProperCell c }
     ensures { out.new ≡ value_cell cell_width (held c) }
 {
-    let v = c.value;
-    match v {
+    match c.value {
         Value::Null => write_word(out, 0, 0),
-        Value::Boolean(b) => {
-            if b {
-                write_word(out, 1, 72057594037927936)
-            } else {
-                write_word(out, 1, 0)
-            }
-        }
+        Value::Boolean(b) => write_word(out, 1, u64::from(b) << 56),
         Value::Integer(z) => write_word(out, 2, value::integer_bits(z)),
         Value::Float(x) => write_word(out, 3, value::float_bits(x)),
         Value::Text(t) => {
@@ -124,30 +93,14 @@ pub fn read_cell(s: &[u8]) -> Cell
     requires { cell_width ≤ length s.now }
     ensures { (held result ≡ read_value s.now) × ProperCell result }
 {
-    let kind = s[0];
-    if kind == 0 {
-        return Cell { value: Value::Null };
-    }
-    if kind == 1 {
-        return Cell {
-            value: Value::Boolean(s[2] == 1),
-        };
-    }
-    if kind == 2 {
-        let w = bytes::get(&s[2..10]);
-        return Cell {
-            value: Value::Integer(value::integer_of(w)),
-        };
-    }
-    if kind == 3 {
-        let w = bytes::get(&s[2..10]);
-        return Cell {
-            value: Value::Float(value::float_of(w)),
-        };
-    }
-    Cell {
-        value: Value::Text(read_name(&s[1..CELL_WIDTH])),
-    }
+    let value = match s[0] {
+        0 => Value::Null,
+        1 => Value::Boolean(s[2] == 1),
+        2 => Value::Integer(value::integer_of(bytes::get(&s[2..10]))),
+        3 => Value::Float(value::float_of(bytes::get(&s[2..10]))),
+        _ => Value::Text(read_name(&s[1..CELL_WIDTH])),
+    };
+    Cell { value }
 }
 
 // Whether the bytes are a value's cell: they are those of the cell of what they are read as.
@@ -155,7 +108,7 @@ pub fn is_cell(s: &[u8]) -> bool
     requires { length s.now ≡ cell_width }
     ensures { result ≡ is_cell s.now }
 {
-    let mut own = [0u8; 26];
+    let mut own = [0; CELL_WIDTH];
     write_cell(&mut own, read_cell(s));
     bytes::same_bytes(&own, s)
 }

@@ -4,11 +4,11 @@
 
 ghost use Rattle.values.specs.Meaning.{ProperCell};
 
-use forms::read::ReadCell;
 use forms::{print, read};
+use std::cmp::Ordering;
 use std::io;
 use std::io::{Read, Write};
-use values::value::{Cell, Order, Value};
+use values::value::{Cell, Value};
 use values::{cell, value};
 
 // A space and a word.
@@ -16,11 +16,11 @@ fn say<W: Write>(out: &mut W, word: &str) -> io::Result<()> {
     write!(out, " {word}")
 }
 
-fn show_order<W: Write>(out: &mut W, o: Order) -> io::Result<()> {
+fn show_order<W: Write>(out: &mut W, o: Ordering) -> io::Result<()> {
     match o {
-        Order::Less => say(out, "after"),
-        Order::Same => say(out, "equal"),
-        Order::More => say(out, "before"),
+        Ordering::Less => say(out, "after"),
+        Ordering::Equal => say(out, "equal"),
+        Ordering::Greater => say(out, "before"),
     }
 }
 
@@ -30,7 +30,7 @@ fn show_value<W: Write>(out: &mut W, c: Cell) -> io::Result<()>
 {
     let mut line = [0u8; 50];
     let n = print::print_value(&mut line, c);
-    out.write_all(&line[0..n])
+    out.write_all(&line[..n])
 }
 
 // Two digits for each byte.
@@ -50,13 +50,11 @@ fn show_cell<W: Write>(out: &mut W, c: Cell) -> io::Result<()>
     cell::write_cell(&mut own, c);
     show_bytes(out, &own)?;
     let back = cell::read_cell(&own);
-    let v = c.value;
-    let w = back.value;
-    show_order(out, value::compare(v, w))?;
+    show_order(out, value::compare(c.value, back.value))?;
     if cell::is_cell(&own) {
         say(out, "cell")?;
     }
-    if value::is_undefined(v) {
+    if value::is_undefined(c.value) {
         say(out, "undefined")?;
     }
     Ok(())
@@ -68,7 +66,7 @@ fn show_all<W: Write>(out: &mut W, s: &[u8]) -> io::Result<()> {
     let mut at = 0;
     while at < s.len() {
         match read::value_at(s, at) {
-            ReadCell::Got { cell, next } => {
+            Ok((cell, next)) => {
                 show_value(out, cell)?;
                 show_order(out, value::compare(before.value, cell.value))?;
                 show_cell(out, cell)?;
@@ -76,10 +74,7 @@ fn show_all<W: Write>(out: &mut W, s: &[u8]) -> io::Result<()> {
                 before = cell;
                 at = next;
             }
-            ReadCell::Broken(x) => {
-                writeln!(out, "broken at {x}")?;
-                at = s.len();
-            }
+            Err(broken) => return writeln!(out, "broken at {}", broken.at),
         }
     }
     Ok(())
@@ -88,5 +83,5 @@ fn show_all<W: Write>(out: &mut W, s: &[u8]) -> io::Result<()> {
 fn main(rt: HostRuntime) {
     let mut buffer = [0u8; 4096];
     let n = rt.stdin().read(&mut buffer).unwrap_or(0);
-    let _shown = show_all(&mut rt.stdout(), &buffer[0..n]);
+    let _ = show_all(&mut rt.stdout(), &buffer[..n]);
 }

@@ -1,6 +1,6 @@
 -- The keys of the rows that have one of some values, counted by going from each to the next: how many are left behind one. Assumes nothing.
 use Prim.Native.Nat.Ordering.{lt}
-use Prim.Native.Nat.{ℕ, suc, ◌+◌, ◌≤◌, ◌<◌}
+use Prim.Native.Nat.{ℕ, suc, ◌≤◌}
 use native.Mathlib.Omega.{arith}
 use mathlib.Core.Path.{◌≡◌, refl, sym, ap, ◌∙◌}
 use mathlib.Core.Bool.{Bool, true, false, ◌&&◌, cond, true≢false}
@@ -104,26 +104,11 @@ module _ (p : Profile) (R : ℕ) (s : List ℕ) (b : LaidStore p R s) (n : Name)
 
   -- ---- a step to the next key, if there is one
 
-  module _ (k : Value) (x : Bool) (w : Value) (e : cond x (some w) none ≡ next_with rows n i vs k) where
-    found-is : (y : Bool) → x ≡ y → cond y (some w) none ≡ find (before k) keys
+  module _ (k : Value) where
+    pub key-passed : (w : Value) → some w ≡ next_with rows n i vs k → left_behind k keys ≡ suc (left_behind w keys)
     unfolding next_with
-    found-is y h = ap (λ (z : Bool). cond z (some w) none) (sym h) ∙ e
+    key-passed w e = one_fewer k w keys rising (sym e)
 
-    pub key-passed : x ≡ true → left_behind k keys ≡ suc (left_behind w keys)
-    key-passed h = one_fewer k w keys rising (sym (found-is true h))
-
-    pub all-passed : x ≡ false → left_behind k keys ≡ 0
-    all-passed h = none_left k keys (sym (found-is false h))
-
-    -- ---- a loop whose flag m tells whether the last step found one
-
-    module _ (m : Bool) (em : m ≡ true) where
-      pub passed-less : x ≡ true → left_behind w keys + cond x 1 0 < left_behind k keys + cond m 1 0
-      passed-less h = let q = key-passed h in rw (em, h) (omega arith)
-
-      pub ended-less : x ≡ false → left_behind k keys + cond x 1 0 < left_behind k keys + cond m 1 0
-      ended-less h = rw (em, h) (omega arith)
-
-    module _ (c : ℕ) (inv : c + left_behind k keys ≡ length keys) where
-      pub one-counted : x ≡ true → c + 1 + left_behind w keys ≡ length keys
-      one-counted h = let q = key-passed h in omega arith
+    pub all-passed : none ≡ next_with rows n i vs k → left_behind k keys ≡ 0
+    unfolding next_with
+    all-passed e = none_left k keys (sym e)

@@ -4,7 +4,7 @@ use Prim.Native.Nat.Ordering.{gt}
 use Prim.Native.Nat.Ordering.{lt}
 use Prim.Native.Nat.{ℕ, Ordering}
 use mathlib.Core.Path.{◌≡◌, refl, sym, ap, ◌∙◌}
-use mathlib.Core.Bool.{Bool, true, false, not, ◌&&◌, ◌||◌, or-false, cond, true≢false, false≢true}
+use mathlib.Core.Bool.{Bool, true, false, ◌&&◌, ◌||◌, or-false, cond, true≢false}
 use mathlib.Core.List.{List, [], ◌∷◌, map}
 use mathlib.Core.Option.{Option, none, some, some-injective}
 use Rattle.values.specs.Basic.{is_lt, find, keep}
@@ -65,41 +65,13 @@ unfolding least_of
 least-right v none h = refl
 least-right v (some w) h = rw (h w refl)
 
--- as the code takes it, with flags for what is there
-module _ (x y : Bool) (v w : Value) where
-  pub first-missing : not x ≡ true → cond y (some w) none ≡ least_of (cond x (some v) none) (cond y (some w) none)
-  first-missing h = on x h
-    where
-      on : (b : Bool) → not b ≡ true → cond y (some w) none ≡ least_of (cond b (some v) none) (cond y (some w) none)
-      on true h = absurd (false≢true h)
-      on false h = sym (none-least (cond y (some w) none))
+pub second-least : (v w : Value) → before w v ≡ true → some w ≡ least_of (some v) (some w)
+unfolding least_of
+second-least v w h = rw h
 
-  pub second-missing : not y ≡ true → cond x (some v) none ≡ least_of (cond x (some v) none) (cond y (some w) none)
-  second-missing h = on y h
-    where
-      on : (b : Bool) → not b ≡ true → cond x (some v) none ≡ least_of (cond x (some v) none) (cond b (some w) none)
-      on true h = absurd (false≢true h)
-      on false h = sym (least-none (cond x (some v) none))
-
-  module _ (there : not x ≡ false) (also : not y ≡ false) where
-    both-there : (o : Option Value) → o ≡ cond (before w v) (some w) (some v) → o ≡ least_of (cond x (some v) none) (cond y (some w) none)
-    unfolding least_of
-    both-there o e = on x y there also
-      where
-        on : (a b : Bool) → not a ≡ false → not b ≡ false → o ≡ least_of (cond a (some v) none) (cond b (some w) none)
-        on true true h k = e
-        on true false h k = absurd (true≢false k)
-        on false b h k = absurd (true≢false h)
-
-    is-there : (b : Bool) (u : Value) → not b ≡ false → cond b (some u) none ≡ some u
-    is-there true u h = refl
-    is-there false u h = absurd (true≢false h)
-
-    pub second-least : before w v ≡ true → cond y (some w) none ≡ least_of (cond x (some v) none) (cond y (some w) none)
-    second-least h = both-there (cond y (some w) none) (is-there y w also ∙ sym (ap (λ (b : Bool). cond b (some w) (some v)) h))
-
-    pub first-least : before w v ≡ false → cond x (some v) none ≡ least_of (cond x (some v) none) (cond y (some w) none)
-    first-least h = both-there (cond x (some v) none) (is-there x v there ∙ sym (ap (λ (b : Bool). cond b (some w) (some v)) h))
+pub first-least : (v w : Value) → before w v ≡ false → some v ≡ least_of (some v) (some w)
+unfolding least_of
+first-least v w h = rw h
 
 -- ---- the first key behind k of the rows that pass a test
 

@@ -24,7 +24,7 @@ use Rattle.areas.proofs.Sorting.{all-below}
 use Rattle.rules.specs.declared.profile.Profile.{Profile}
 use Rattle.rules.specs.State.{Name, Row, State, of_table, cell_at}
 use Rattle.rules.specs.Index.{Entry, cmp_entry, index_of}
-use Rattle.rules.specs.Layout.{lists, Entries, entries_count, read_entry, parse}
+use Rattle.rules.specs.Layout.{lists, Entries, area_at, record_width, entries_count, read_entry, parse}
 use Rattle.rules.specs.Sound.{good_cells}
 use Rattle.rules.proofs.Tests.{all_head, all_tail}
 use Rattle.rules.proofs.Lists.{keep-nothing}
@@ -34,13 +34,13 @@ use Rattle.rules.proofs.Trip.{canonical-normal}
 use Rattle.laid.specs.Store.{LaidStore}
 use Rattle.laid.specs.Entered.{entries_in, entry_rank}
 use Rattle.checks.specs.Asked.{indexed_at, of_value, bytes_of_value}
-use Rattle.walks.specs.Looked.{keys_with, next_with}
-use Rattle.laid.proofs.Inside.{area-count}
-use Rattle.laid.proofs.Stores.{held-state}
+use Rattle.walks.specs.Looked.{keys_with, next_with, FirstBehind}
+use Rattle.laid.proofs.Inside.{area-count, record-wide}
+use Rattle.laid.proofs.Stores.{held-state, held-inside}
 use Rattle.laid.proofs.Finding.{nth_past}
 use Rattle.laid.proofs.Columns.{rest}
-use Rattle.laid.proofs.Entering.{agree}
-use Rattle.checks.proofs.Checking.{entries-are, held-entered, entry_at}
+use Rattle.laid.proofs.Entering.{agree, entry-width}
+use Rattle.checks.proofs.Checking.{entries-are, held-entered, entry_at, entry-within}
 use Rattle.checks.proofs.Taking.{cmp_group, ord_group, entry-group, leads, in_group_lem}
 
 -- ---- the first element behind one, in any sorted list
@@ -142,6 +142,43 @@ module _ (p : Profile) (R : ℕ) (s : List ℕ) (b : LaidStore p R s) where
   abbrev state : State
   state = parse p R s
 
+  pub entry-long : (count : ℕ) (j : ℕ) → count ≡ count_at entries_count 4 s → j < count → (rec : List ℕ) → rec ≡ get_or (lists p R s).entries j [] → length rec ≡ 78
+  entry-long count j ec h rec er =
+      ap length er
+      ∙ record-wide p R s (held-inside p R s b) Entries (area_at p R Entries) (record_width p Entries) j refl refl (entry-within p R s b j count ec h)
+      ∙ entry-width p b.coded.cells
+
+  -- the first entry behind one, from its rank j on
+  module _ (e : Entry) (j : ℕ) (ej : j ≡ entry_rank p R e s) where
+    from_rank : next_at ord_entry e (entries_in p R s) j ≡ find (behind ord_entry e) (entries_in p R s)
+    from_rank = ap (next_at ord_entry e (entries_in p R s)) ej ∙ sym (first-behind ord_entry e (entries_in p R s) (held-entered p R s b).sorted)
+
+    pub behind-end : (count : ℕ) → count ≡ count_at entries_count 4 s → count ≤ j → FirstBehind p R s e j
+    behind-end count ec h =
+        let q = entry-none p R s count ec j h in
+        record { is = q ∙ sym (ap (λ (x : Option Entry). cond (is_same ord_entry e x) (nth (entries_in p R s) (suc j)) x) q) ∙ from_rank }
+
+    -- the entry there compares as o
+    module _ (h : j < length (lists p R s).entries) (rec : List ℕ) (er : rec ≡ get_or (lists p R s).entries j [])
+        (o : Ordering) (eo : o ≡ cmp_entered cell_width rec e.table e.column e.value e.key) where
+      stands : compare_is_eq o ≡ is_same ord_entry e (nth (entries_in p R s) j)
+      stands =
+          ap compare_is_eq (eo ∙ agree p R s (held-entered p R s b) e rec)
+          ∙ sym (ap (is_same ord_entry e) (entry_at p R s b j h ∙ ap (λ (r : List ℕ). some (read_entry p r)) (sym er)))
+
+      either : FirstBehind p R s e (cond (compare_is_eq o) (j + 1) j)
+      either = by-test (compare_is_eq o) stands
+        where
+          by-test : (x : Bool) → x ≡ is_same ord_entry e (nth (entries_in p R s) j) → FirstBehind p R s e (cond x (j + 1) j)
+          by-test true f = record { is = ap (nth (entries_in p R s)) (add-one j) ∙ ap (λ (x : Bool). cond x (nth (entries_in p R s) (suc j)) (nth (entries_in p R s) j)) f ∙ from_rank }
+          by-test false f = record { is = ap (λ (x : Bool). cond x (nth (entries_in p R s) (suc j)) (nth (entries_in p R s) j)) f ∙ from_rank }
+
+      pub behind-next : compare_is_eq o ≡ true → FirstBehind p R s e (j + 1)
+      behind-next f = rw f at either
+
+      pub behind-this : compare_is_eq o ≡ false → FirstBehind p R s e j
+      behind-this f = rw f at either
+
   plain : (r : Row) → In r state.rows → normalised r.key ≡ r.key
   unfolding good_cells
   plain r m = canonical-normal r.key (all_head _ _ (all_tail _ _ ((held-state p R s b).rows r m).good))
@@ -159,50 +196,25 @@ module _ (p : Profile) (R : ℕ) (s : List ℕ) (b : LaidStore p R s) where
         ∙ map-map first (λ (e : Entry). e.key ∷ []) (keep (in_group n i v) (index_of state.tables state.rows))
         ∙ ap (keys_of n i v) (sym (entries-are p R s b))
 
-    next-is : (j : ℕ) → j ≡ entry_rank p R (entry_with n i v k) s → next ≡ key_in n i v k (next_at ord_entry (entry_with n i v k) (entries_in p R s) j)
-    unfolding next_with
-    next-is j ej =
-        let es = entries_in p R s in
-        let srt = (held-entered p R s b).sorted in
-        ap (find (before k)) keys-are
-        ∙ key-behind n i v k es srt
-        ∙ ap (key_in n i v k) (first-behind ord_entry (entry_with n i v k) es srt ∙ ap (next_at ord_entry (entry_with n i v k) es) (sym ej))
+    -- the first entry behind the key's tells the next key
+    module _ (j : ℕ) (f : FirstBehind p R s (entry_with n i v k) j) where
+      told : key_in n i v k (nth (entries_in p R s) j) ≡ next
+      unfolding next_with
+      told =
+          ap (key_in n i v k) f.is
+          ∙ sym (key-behind n i v k (entries_in p R s) (held-entered p R s b).sorted)
+          ∙ sym (ap (find (before k)) keys-are)
 
-    -- the entry at place j tells the next key
-    abbrev pub Tells : ℕ → Type 0
-    Tells j = next ≡ key_in n i v k (nth (entries_in p R s) j)
-
-    -- the place that the code comes to from the rank
-    module _ (j : ℕ) (ej : j ≡ entry_rank p R (entry_with n i v k) s) where
-      module _ (h : j < length (lists p R s).entries) (rec : List ℕ) (er : rec ≡ get_or (lists p R s).entries j [])
-          (o : Ordering) (eo : o ≡ cmp_entered cell_width rec n i v k) where
-        stands : is_same ord_entry (entry_with n i v k) (nth (entries_in p R s) j) ≡ compare_is_eq o
-        stands =
-            ap (is_same ord_entry (entry_with n i v k)) (entry_at p R s b j h ∙ ap (λ (r : List ℕ). some (read_entry p r)) (sym er))
-            ∙ ap compare_is_eq (sym (agree p R s (held-entered p R s b) (entry_with n i v k) rec) ∙ sym eo)
-
-        pub next-tells : compare_is_eq o ≡ true → Tells (j + 1)
-        next-tells f =
-            next-is j ej
-            ∙ ap (key_in n i v k)
-            (ap (λ (x : Bool). cond x (nth (entries_in p R s) (suc j)) (nth (entries_in p R s) j)) (stands ∙ f) ∙ ap (nth (entries_in p R s)) (sym (add-one j)))
-
-        pub this-tells : compare_is_eq o ≡ false → Tells j
-        this-tells f = next-is j ej ∙ ap (key_in n i v k) (ap (λ (x : Bool). cond x (nth (entries_in p R s) (suc j)) (nth (entries_in p R s) j)) (stands ∙ f))
-
-      module _ (count : ℕ) (ec : count ≡ count_at entries_count 4 s) (h : count ≤ j) where
-        none-at : nth (entries_in p R s) j ≡ none
-        none-at = entry-none p R s count ec j h
-
-        pub end-tells : Tells j
-        end-tells = next-is j ej ∙ ap (key_in n i v k) (ap (λ (x : Option Entry). cond (is_same ord_entry (entry_with n i v k) x) (nth (entries_in p R s) (suc j)) x) none-at ∙ sym none-at)
-
-    -- what it tells
-    module _ (j : ℕ) (t : Tells j) where
       pub tells_none : (count : ℕ) → count ≡ count_at entries_count 4 s → count ≤ j → none ≡ next
-      tells_none count ec h = sym (t ∙ ap (key_in n i v k) (entry-none p R s count ec j h))
+      tells_none count ec h = sym (ap (key_in n i v k) (entry-none p R s count ec j h)) ∙ told
 
-      pub tells-key : j < length (lists p R s).entries → (rec : List ℕ) → rec ≡ get_or (lists p R s).entries j [] → (x : Bool) → x ≡ bytes_of_value rec n i v
-          → (w : Value) → w ≡ read_value (take (length rec - 52) (drop 52 rec)) → cond x (some w) none ≡ next
-      unfolding bytes_of_value read_entry
-      tells-key h rec er x ex w ew = rw (t, entry_at p R s b j h, ← er, ← ex, ew, rest 52 rec, b.coded.cells)
+      module _ (h : j < length (lists p R s).entries) (rec : List ℕ) (er : rec ≡ get_or (lists p R s).entries j []) (x : Bool) (ex : x ≡ bytes_of_value rec n i v) where
+        here : (w : Value) → w ≡ read_value (take (length rec - 52) (drop 52 rec)) → cond x (some w) none ≡ next
+        unfolding bytes_of_value read_entry
+        here w ew = rw (← told, entry_at p R s b j h, ← er, ← ex, ew, rest 52 rec, b.coded.cells)
+
+        pub tells-key : x ≡ true → (w : Value) → w ≡ read_value (take (length rec - 52) (drop 52 rec)) → some w ≡ next
+        tells-key f w ew = rw f at (here w ew)
+
+        pub tells-other : x ≡ false → none ≡ next
+        tells-other f = rw f at (here _ refl)

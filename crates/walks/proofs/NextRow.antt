@@ -2,7 +2,6 @@
 -- Assumes nothing.
 use mathlib.Core.Path.{◌≡◌, refl, sym, ap, ◌∙◌}
 use mathlib.Core.Bool.{Bool, true, false, cond}
-use mathlib.Core.Logic.{◌⊎◌, ⊎_elim}
 use mathlib.Core.Option.{Option, none, some, map, none-ne-some, some-injective}
 use Prim.Native.Nat.Ordering.{eq}
 use Prim.Native.Nat.Ordering.{gt}
@@ -11,7 +10,9 @@ use Prim.Native.Nat.{ℕ, zero, suc, ◌+◌, ◌-◌, ◌≤◌, ◌<◌, zero-
 use native.Mathlib.Numerals.{one-add}
 use native.Mathlib.Omega.{arith}
 use mathlib.Core.List.{List, [], ◌∷◌}
-use lib.Dec.{compare_is_eq}
+use lib.Dec.{compare_is_eq, ltb}
+use borrow.Author.Tests.{ltb-true, ltb-false}
+use Rattle.std.proofs.Common.{max}
 use lib.ListN.{length, take, drop, get_or, drop_of_length-le}
 use Rattle.values.specs.Basic.{is_lt, cmp_bytes, nth}
 use Rattle.values.specs.Cell.{read_name}
@@ -139,19 +140,21 @@ module _ (p : Profile) (R : ℕ) (s : List ℕ) (b : LaidStore p R s) (n : Name)
   -- i is the greater of the table's first place and `from`
   module _ (start w : ℕ) (es : start ≡ rows_at p) (ew : w ≡ row_width p) (count : ℕ) (ec : count ≡ count_at rows_count 2 s)
       (top : ℕ) (et : top ≡ count_of (before n) (records w count (take (length s - start) (drop start s))))
-      (from i : ℕ) (begun : ((from < top) × (i ≡ top)) ⊎ ((top ≤ from) × (i ≡ from))) where
+      (from i : ℕ) (begun : i ≡ max from top) where
     ranked : top ≡ run_at cmp_bytes (λ (r : Row). r.table) n rows
     ranked = placed p R s b n start w es ew count ec top et (run_from n (drop top (records w count (take (length s - start) (drop start s))))) refl
 
     low : run_at cmp_bytes (λ (r : Row). r.table) n rows ≤ i
-    low = ⊎_elim (λ x. omega (arith, ranked, x.1)) (λ x. omega (arith, ranked, x.0, x.1)) begun
+    low = omega (arith, ranked, begun)
 
     moved : place_from (of_table n) rows from ≡ place_from (of_table n) rows i
-    moved =
-        ⊎_elim
-        (λ x. place-skip (λ (r : Row). r.table) row-leads n rows in_order from (omega (arith, ranked, x.0)) ∙ ap (place_from (of_table n) rows) (sym ranked ∙ sym x.1))
-        (λ x. ap (place_from (of_table n) rows) (sym x.1))
-        begun
+    moved = by-test (ltb from top) refl
+      where
+        by-test : (x : Bool) → ltb from top ≡ x → place_from (of_table n) rows from ≡ place_from (of_table n) rows i
+        by-test true h =
+            let e : run_at cmp_bytes (λ (r : Row). r.table) n rows ≡ i = omega (arith, ranked, begun, ltb-true from top h) in
+            place-skip (λ (r : Row). r.table) row-leads n rows in_order from (omega (arith, ranked, ltb-true from top h)) ∙ ap (place_from (of_table n) rows) e
+        by-test false h = let e : from ≡ i = omega (arith, begun, ltb-false from top h) in ap (place_from (of_table n) rows) e
 
     pub next_past : count ≤ i → none ≡ place_from (of_table n) rows from
     next_past h =

@@ -1,7 +1,7 @@
 -- The search for a row that refers to one of the keys, as the code goes through tables, columns and rows: what is left of it from a place on
 -- is all of it. Assumes nothing.
 use mathlib.Core.Path.{◌≡◌, refl, sym, ap, ◌∙◌}
-use mathlib.Core.Bool.{Bool, true, false, not, ◌&&◌, cond, false≢true}
+use mathlib.Core.Bool.{Bool, true, false, not, ◌&&◌, cond}
 use mathlib.Core.Logic.{inl, inr}
 use mathlib.Core.Option.{Option, none, some, map}
 use Prim.Native.Nat.{ℕ, suc, ◌+◌, ◌-◌, ◌≤◌, ◌<◌}
@@ -22,7 +22,6 @@ use Rattle.rules.specs.Request.{Carried, carried_by}
 use Rattle.rules.specs.Layout.{lists, parse}
 use Rattle.rules.specs.Rows.{refers_to, referring, referring_column, row_referenced}
 use Rattle.rules.proofs.Tests.{and_left, name-is}
-use Rattle.walks.specs.declared.walk.Span.{Span}
 use Rattle.laid.specs.Store.{LaidStore}
 use Rattle.laid.specs.Row.{table_in, row_in, column_in, no_column, RowOf}
 use Rattle.walks.specs.Referring.{shown, counts}
@@ -33,31 +32,11 @@ use Rattle.laid.proofs.Stores.{held-state}
 use Rattle.laid.proofs.Keyed.{row_at, row-in}
 use Rattle.laid.proofs.RowFacts.{own-full, own-key-below, own_key, table-there, table-held, start-name, start-key, start-count}
 
--- ---- whether a row counts
+-- ---- whether a row of the keys' own table counts
 
 module _ (ks : List Value) (j : ℕ) (r : Row) (a : Bool) (ea : a ≡ among (cell_at r.cells j) ks) where
-  pub counts-without : (own : Bool) → not a ≡ true → false ≡ counts ks j own r
-  counts-without own h = rw (← ea) (absent a h)
-    where
-      absent : (a : Bool) → not a ≡ true → false ≡ (a && not (own && among r.key ks))
-      absent true h = absurd (false≢true h)
-      absent false h = refl
-
-  pub counts-other : (own : Bool) → not a ≡ false → not own ≡ true → true ≡ counts ks j own r
-  counts-other own h g = rw (← ea) (other a own h g)
-    where
-      other : (a own : Bool) → not a ≡ false → not own ≡ true → true ≡ (a && not (own && among r.key ks))
-      other true true h g = absurd (false≢true g)
-      other true false h g = refl
-      other false own h g = absurd (false≢true (sym h))
-
-  pub counts-own : (own : Bool) → not a ≡ false → not own ≡ false → (b : Bool) → b ≡ among r.key ks → not b ≡ counts ks j own r
-  counts-own own h g b eb = rw (← ea, ← eb) (itself a own h g)
-    where
-      itself : (a own : Bool) → not a ≡ false → not own ≡ false → not b ≡ (a && not (own && b))
-      itself true true h g = refl
-      itself true false h g = absurd (false≢true (sym g))
-      itself false own h g = absurd (false≢true (sym h))
+  pub counts-own : (own : Bool) → a ≡ true → own ≡ true → (b : Bool) → b ≡ among r.key ks → not b ≡ counts ks j own r
+  counts-own own h g b eb = rw (← ea, ← eb, h, g)
 
 -- ---- the cells of a row of the table at place t
 
@@ -198,9 +177,9 @@ module _ (p : Profile) (R : ℕ) (s : List ℕ) (n : Name) (ks : List Value) whe
           rw add-one
           (rw (column-there, column-passed rows n ks (table_in p R s t) j (column_in p R s t j) (drop (suc j) (table_in p R s t).columns) (sym ea ∙ h)) at f)
 
-      pub column-rows : a ≡ true → (x : Span) (m : Name) → Spans rows m x → m ≡ (table_in p R s t).name → (own : Bool) → own ≡ same_name m n → FromRow t j own x.to x.from
+      pub column-rows : a ≡ true → (from to : ℕ) (m : Name) → Spans rows m from to → m ≡ (table_in p R s t).name → (own : Bool) → own ≡ same_name m n → FromRow t j own to from
       unfolding FromColumn between
-      column-rows h x m w e own o =
+      column-rows h from to m w e own o =
           record {
             inside = w.inside;
             of = λ r i. name-is r.table m (in-keep (of_table m) r rows (rw w.are i)).1 ∙ e;

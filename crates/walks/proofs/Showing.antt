@@ -1,4 +1,4 @@
--- What the searches for a value in a column of a stored table answer, and whether a column refers to a table. Assumes nothing.
+-- What the searches for a value in a column of a stored table answer. Assumes nothing.
 use mathlib.Core.Path.{◌≡◌, refl, sym, ap, subst, ◌∙◌}
 use mathlib.Core.Bool.{Bool, true, false, not, ◌&&◌, ◌||◌, cond, and-true}
 use mathlib.Core.Option.{Option, some, map}
@@ -7,13 +7,13 @@ use native.Mathlib.Omega.{arith}
 use mathlib.Core.List.{List, [], ◌∷◌}
 use lib.Dec.{eqb}
 use lib.ListN.{length, get_or}
-use borrow.Author.Tests.{eq-eqb, ne_eqb, not-true, not-false}
-use Rattle.values.specs.Basic.{any, find, is_some, nth, only_if, or_default, maybe}
+use borrow.Author.Tests.{eq-eqb, ne_eqb}
+use Rattle.values.specs.Basic.{any, find, is_some, nth, or_default, maybe}
 use Rattle.values.specs.Value.{Value, same}
 use Rattle.values.specs.Cell.{name_width, read_name}
 use Rattle.areas.specs.Sorted.{In}
 use Rattle.rules.specs.declared.profile.Profile.{Profile}
-use Rattle.rules.specs.State.{Name, same_name, Column, Table, Row, table_named, of_table, is_row, has_row, cell_at}
+use Rattle.rules.specs.State.{Name, Column, Table, Row, table_named, of_table, is_row, has_row, cell_at}
 use Rattle.rules.specs.Layout.{lists, parse}
 use Rattle.rules.specs.Rows.{taken, refers_to}
 use Rattle.rules.proofs.Catalog.{stored-named}
@@ -29,22 +29,13 @@ use Rattle.laid.proofs.Columns.{columns_of, columns-few, column-nth}
 use Rattle.checks.proofs.Fitting.{rec-bytes, table_is}
 use Rattle.laid.proofs.RowFacts.{own_key, table-held, start-name, start-key}
 
--- ---- whether a column refers to the table n: b says that it has a reference, to m
-
-module _ (n : Name) (b : Bool) (m : Name) where
-  pub refers-not : not b ≡ true → false ≡ or_default (map (same_name n) (only_if b m)) false
-  refers-not h = rw (not-true b h)
-
-  pub refers-by-name : not b ≡ false → (r : Bool) → r ≡ same_name n m → r ≡ or_default (map (same_name n) (only_if b m)) false
-  refers-by-name h r e = rw (not-false b h) e
-
 -- a reference to n is asked first: x says whether column c, which is d, has it; y what a search answers
 module _ (n : Name) (c d : Column) (e : c ≡ d) (x : Bool) (ex : x ≡ refers_to n c) (y : Bool) where
-  pub searched-not : not x ≡ true → false ≡ (refers_to n d && y)
-  searched-not h = sym (ap (λ (z : Bool). z && y) (ap (λ (k : Column). refers_to n k) (sym e) ∙ sym ex ∙ not-true x h))
+  pub searched-not : x ≡ false → x ≡ (refers_to n d && y)
+  searched-not h = rw (← e, ← ex, h)
 
-  pub searched-by : not x ≡ false → (r : Bool) → r ≡ y → r ≡ (refers_to n d && y)
-  searched-by h r f = f ∙ sym (ap (λ (z : Bool). z && y) (ap (λ (k : Column). refers_to n k) (sym e) ∙ sym ex ∙ not-false x h))
+  pub searched-by : x ≡ true → y ≡ (refers_to n d && y)
+  searched-by h = rw (← e, ← ex, h)
 
 -- ---- a column of a stored table
 

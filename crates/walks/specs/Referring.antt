@@ -1,12 +1,13 @@
 -- Delete's reference test in the parts that the code asks it in. Assumes nothing.
 use Rattle.std.specs.Prelude.{ℕ, Bool, true, not, ◌&&◌, ◌||◌, cond, List, eqb}
-use Rattle.std.proofs.Math.Option.{Option, none, some}
+use Rattle.std.proofs.Math.Option.{Option, map}
 use Rattle.values.specs.Basic.{any}
 use Rattle.values.specs.Value.{Value, same, among}
-use Rattle.values.specs.Meaning.{text_bytes, held}
+use Rattle.values.specs.Meaning.{option_of}
 use Rattle.rules.specs.State.{Name, Column, Table, Row, of_table, cell_at}
-use Rattle.rules.specs.Request.{Carried, carried_by}
-use Rattle.walks.specs.declared.referrer.Referrer.{Referrer}
+use Rattle.rules.specs.Request.{Carried, carried_of}
+use Rattle.std.specs.declared.option.Option.{Option as Held}
+use Rattle.rules.specs.declared.answer.Carried as C
 
 -- some row of the table has the value in column j
 abbrev pub holds : List Row → Name → ℕ → Value → Bool
@@ -20,5 +21,5 @@ shown rs t j c v = cond (c.index || eqb j t.key) (holds rs t.name j v) true
 abbrev pub counts : List Value → ℕ → Bool → Row → Bool
 counts ks j own r = among (cell_at r.cells j) ks && not (own && among r.key ks)
 
-abbrev pub referrer_of : Referrer → Option Carried
-referrer_of r = cond r.found (some (carried_by (text_bytes r.table) r.column (held r.key))) none
+abbrev pub referrer_of : Held C.Carried → Option Carried
+referrer_of r = map carried_of (option_of r)

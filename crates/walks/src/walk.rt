@@ -1,69 +1,78 @@
 // A table's rows by place (local.rs: `scan`), and the keys of an indexed value, one after the other.
-ghost use Rattle.std.specs.Prelude.{◌≡◌, true, [], ◌∷◌, ℕ, ◌+◌, length, drop};
+ghost use Rattle.std.specs.Prelude.{◌≡◌, true, [], ◌∷◌, ℕ, ◌+◌, length, drop, IfSome};
 ghost use Rattle.std.proofs.Math.Option.{map};
 ghost use Rattle.values.specs.Meaning.{text_bytes, Packed, meaning, Proper, ProperCell};
 ghost use Rattle.rules.specs.State.{of_table};
 ghost use Rattle.rules.specs.Layout.{parse};
 ghost use Rattle.laid.specs.Store.{LaidStore};
+ghost use Rattle.laid.specs.Entered.{entry_of};
 ghost use Rattle.laid.specs.Catalog.{place_of, found_at};
 ghost use Rattle.checks.specs.Asked.{indexed_at};
-ghost use Rattle.checks.specs.Keys.{values_from};
+ghost use Rattle.checks.specs.Keys.{values_of};
 ghost use Rattle.walks.specs.Spans.{Spans};
-ghost use Rattle.walks.specs.Looked.{keys_with, next_with, least_of, next_of};
+ghost use Rattle.walks.specs.Looked.{keys_with, next_with, least_of, next_of, FirstBehind};
 
 use areas::search;
+use checks::keys::Values;
 use checks::row_fault;
-use forms::read;
-use forms::read::ReadCell;
-use laid::catalog::Found;
 use laid::{entry, layout, run};
 use rules::profile::Profile;
-use values::value::{Cell, Order, Text, Value};
+use std::ops::Range;
+use values::value::{Cell, Text, Value};
 use values::{cell, value};
 
-// The places of a table's rows: from the first on, before the last.
-#[derive(Clone, Copy)]
-pub struct Span {
-    pub from: usize,
-    pub to: usize,
-}
-
-// A key, if there is one.
-#[derive(Clone, Copy)]
-pub struct Next {
-    pub found: bool,
-    pub key: Cell,
-}
-
 // The places of a table's rows; an unknown table has none.
-pub fn scan(s: &[u8], p: Profile, places: usize, name: Text) -> Span
+pub fn scan(s: &[u8], p: Profile, places: usize, name: Text) -> Range<usize>
     requires { LaidStore p places s.now × Packed name }
-    ensures { Spans (parse p places s.now).rows (text_bytes name) result }
+    ensures { Spans (parse p places s.now).rows (text_bytes name) result.start result.end }
 {
     let count = layout::row_count(s);
     let width = layout::row_width(p);
-    let from = layout::rows_at(p);
-    let i = search::named_before(&s[from..], count, width, name);
-    let n = run::run_from(&s[from..], width, count, i, name);
-    Span { from: i, to: i + n }
+    let rows = &s[layout::rows_at(p)..];
+    let start = search::named_before(rows, count, width, name);
+    start..start + run::run_from(rows, width, count, start, name)
 }
 
 // The place of the first row of a table at place `from` or behind it.
-pub fn next_row(s: &[u8], p: Profile, places: usize, name: Text, from: usize) -> Found
+pub fn next_row(s: &[u8], p: Profile, places: usize, name: Text, from: usize) -> Option<usize>
     requires { LaidStore p places s.now × Packed name }
     ensures { found_at result ≡ map (λ (i : ℕ). from + i) (place_of (of_table (text_bytes name)) (drop from (parse p places s.now).rows)) }
 {
     let count = layout::row_count(s);
     let width = layout::row_width(p);
-    let start = layout::rows_at(p);
-    let first = search::named_before(&s[start..], count, width, name);
-    let i = if from < first { first } else { from };
+    let rows = &s[layout::rows_at(p)..];
+    let i = from.max(search::named_before(rows, count, width, name));
     if count <= i {
-        return Found::Nothing;
+        return None;
     }
-    match search::compare_named(layout::row_record(s, p, places, i), name) {
-        Order::Same => Found::At(i),
-        _ => Found::Nothing,
+    if !search::compare_named(layout::row_record(s, p, places, i), name).is_eq() {
+        return None;
+    }
+    Some(i)
+}
+
+// The place of the first index entry behind one.
+fn entry_behind(
+    s: &[u8],
+    p: Profile,
+    places: usize,
+    name: Text,
+    column: u8,
+    v: Value,
+    key: Value,
+) -> usize
+    requires { LaidStore p places s.now × Packed name × Proper v × Proper key }
+    ensures { FirstBehind p places s.now (entry_of name column v key) result }
+{
+    let i = entry::entry_rank(s, p, places, name, column, v, key);
+    if layout::entry_count(s) <= i {
+        return i;
+    }
+    let rec = layout::entry_record(s, p, places, i);
+    if search::compare_entered(rec, name, column, v, key).is_eq() {
+        i + 1
+    } else {
+        i
     }
 }
 
@@ -76,52 +85,36 @@ fn next_entered(
     column: u8,
     v: Value,
     after: Value,
-) -> Next
+) -> Option<Cell>
     requires { LaidStore p places s.now × Packed name × Proper v × Proper after × (indexed_at (parse p places s.now).tables (text_bytes name) column ≡ true) }
-    ensures { (next_of result ≡ next_with (parse p places s.now).rows (text_bytes name) column (meaning v ∷ []) (meaning after)) × ProperCell result.key }
+    ensures { (next_of result ≡ next_with (parse p places s.now).rows (text_bytes name) column (meaning v ∷ []) (meaning after)) × IfSome result ProperCell }
 {
-    let mut i = entry::entry_rank(s, p, places, name, column, v, after);
-    let count = layout::entry_count(s);
-    if i < count {
-        let rec = layout::entry_record(s, p, places, i);
-        match search::compare_entered(rec, name, column, v, after) {
-            Order::Same => {
-                i += 1;
-            }
-            _ => {}
-        }
-    }
-    if count <= i {
-        return Next {
-            found: false,
-            key: Cell { value: Value::Null },
-        };
+    let i = entry_behind(s, p, places, name, column, v, after);
+    if layout::entry_count(s) <= i {
+        return None;
     }
     let rec = layout::entry_record(s, p, places, i);
-    Next {
-        found: row_fault::is_of(rec, name, column, v),
-        key: cell::read_cell(&rec[search::ENTRY_KEY..]),
+    if !row_fault::is_of(rec, name, column, v) {
+        return None;
     }
+    Some(cell::read_cell(&rec[search::ENTRY_KEY..]))
 }
 
-// The smaller of two keys that are there.
-fn least(a: Next, b: Next) -> Next
-    requires { ProperCell a.key × ProperCell b.key }
-    ensures { (next_of result ≡ least_of (next_of a) (next_of b)) × ProperCell result.key }
+// The smaller of two keys, or the one that is there.
+fn least(a: Option<Cell>, b: Option<Cell>) -> Option<Cell>
+    requires { IfSome a ProperCell × IfSome b ProperCell }
+    ensures { (next_of result ≡ least_of (next_of a) (next_of b)) × IfSome result ProperCell }
 {
-    if !a.found {
-        return b;
-    }
-    if !b.found {
-        return a;
-    }
-    let x = a.key;
-    let y = b.key;
-    let v = x.value;
-    let w = y.value;
-    match value::compare(w, v) {
-        Order::Less => b,
-        _ => a,
+    match (a, b) {
+        (None, _) => b,
+        (_, None) => a,
+        (Some(x), Some(y)) => {
+            if value::compare(y.value, x.value).is_lt() {
+                b
+            } else {
+                a
+            }
+        }
     }
 }
 
@@ -132,32 +125,18 @@ pub fn next_key(
     places: usize,
     name: Text,
     column: u8,
-    rec: &[u8],
-    at: usize,
-    count: usize,
+    values: Values<'_>,
     after: Value,
-) -> Next
+) -> Option<Cell>
     requires { LaidStore p places s.now × Packed name × Proper after × (indexed_at (parse p places s.now).tables (text_bytes name) column ≡ true) }
-    ensures { (next_of result ≡ next_with (parse p places s.now).rows (text_bytes name) column (values_from rec.now count at) (meaning after)) × ProperCell result.key }
+    ensures { (next_of result ≡ next_with (parse p places s.now).rows (text_bytes name) column (values_of values.entry) (meaning after)) × IfSome result ProperCell }
 {
-    let mut best = Next {
-        found: false,
-        key: Cell { value: Value::Null },
-    };
-    let mut left = count;
-    let mut next = at;
-    while 0 < left {
-        match read::value_at(rec, next) {
-            ReadCell::Got { cell, next: end } => {
-                let v = cell.value;
-                best = least(best, next_entered(s, p, places, name, column, v, after));
-                next = end;
-            }
-            ReadCell::Broken(_) => {
-                return best;
-            }
-        }
-        left -= 1;
+    let mut best = None;
+    for cell in values {
+        best = least(
+            best,
+            next_entered(s, p, places, name, column, cell.value, after),
+        );
     }
     best
 }
@@ -169,24 +148,16 @@ pub fn key_count(
     places: usize,
     name: Text,
     column: u8,
-    rec: &[u8],
-    at: usize,
-    count: usize,
+    values: Values<'_>,
 ) -> usize
     requires { LaidStore p places s.now × Packed name × (indexed_at (parse p places s.now).tables (text_bytes name) column ≡ true) }
-    ensures { result ≡ length (keys_with (parse p places s.now).rows (text_bytes name) column (values_from rec.now count at)) }
+    ensures { result ≡ length (keys_with (parse p places s.now).rows (text_bytes name) column (values_of values.entry)) }
 {
-    let mut n: usize = 0;
-    let mut last = Cell { value: Value::Null };
-    let mut more = true;
-    while more {
-        let after = last.value;
-        let x = next_key(s, p, places, name, column, rec, at, count, after);
-        more = x.found;
-        if more {
-            last = x.key;
-            n += 1;
-        }
+    let mut n = 0;
+    let mut last = Value::Null;
+    while let Some(key) = next_key(s, p, places, name, column, values, last) {
+        last = key.value;
+        n += 1;
     }
     n
 }

@@ -8,7 +8,7 @@ pub loop-at-init : goal.loop-at-init
 unfolding Proper
 loop-at-init g c = tt
 
-pub loop-at-smaller-in-Got : goal.loop-at-smaller-in-Got
-loop-at-smaller-in-Got g c =
-    let got = (cell-got _ _ _ _ _ c.value_at.ensures c.in-Got.is).1 in
+pub loop-at-smaller : goal.loop-at-smaller
+loop-at-smaller g c =
+    let got = (cell-got _ _ _ _ _ c.value_at.ensures c.in-Ok.is).1 in
     omega (arith, got.after)

@@ -9,10 +9,8 @@ use Rattle.values.proofs.Packing.{replicate-zeros}
 use Rattle.rules.specs.Layout.{table_record}
 use Rattle.records.specs.Record.{create_at}
 use Rattle.operations.specs.Created.{table_of}
-use Rattle.journal.proofs.Booking.{laid-books, journaled}
-use Rattle.journal.proofs.Noting.{book-long}
-use Rattle.operations.proofs.Shut.{create-quiet, outside-settled}
-use Rattle.operations.proofs.SchemaWritten.{create-inside, CreateGot, create-got, create-bytes, create-long, create-acts, schema-room, room-clear, room_back, room-enough}
+use Rattle.operations.proofs.Shut.{journal-there, create-quiet, outside-settled}
+use Rattle.operations.proofs.SchemaWritten.{create-inside, CreateGot, create-got, create-bytes, create-long, create-acts, schema-room, room-clear, room_back}
 use mathlib.Core.List.{List}
 use Rattle.operations.proofs.create.create.Goals as goal
 use Rattle.operations.proofs.create.create.Goals.{After-schema_width-width, After-write_schema}
@@ -45,21 +43,18 @@ write_schema-requires c =
     let e = room-clear n (replicate 651 0) 651 (room (goal.at.write_schema-requires c).After-schema_width-width) refl in
     (c.requires.0.store.coded, ap length e ∙ length-replicate n 0 ∙ c.schema_width-width.ensures, ap zeros e ∙ replicate-zeros n, c.requires.1)
 
-pub slice_bounds-create_table-end : goal.slice_bounds-create_table-end
-slice_bounds-create_table-end c = room-enough c.schema_width-width.result (replicate 651 0) c.write_schema.new.out (long (goal.at.slice_bounds-create_table-end c).After-write_schema)
-
 pub create_table-requires : goal.create_table-requires
 create_table-requires c =
     let m = (goal.at.create_table-requires c).After-write_schema in
     (c.requires.0.store, create-bytes c.args.p c.requires.0.store.coded c.args.rec.now c.args.at (read (goal.at.create_table-requires c).After-schema_width-width) (written m) (told m))
 
 pub is_open-requires : goal.is_open-requires
-is_open-requires c = omega (arith, book-long (journaled (laid-books c.requires.0)))
+is_open-requires c = journal-there c.requires.0
 
 pub returns-then-is_open : goal.returns-then-is_open
 returns-then-is_open c =
     create-inside (create-got c.args.rec.now (λ i. omega (arith, c.type_inv.rec i)) c.args.p c.args.at c.requires.1) c.requires.0
-    (sym c.is_open.ensures ∙ c.if-is_open.true) c.refused.ensures
+    (sym c.is_open.ensures ∙ c.if-is_open.true) c.new.ensures
 
 pub returns : goal.returns
 returns c =

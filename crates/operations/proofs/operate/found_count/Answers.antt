@@ -1,52 +1,20 @@
--- `operations::operate::found_count` meets its contract: the keys found so far, with those of the values that remain, are all. Assumes nothing.
-use Prim.Native.Nat.{ℕ}
+use Rattle.operations.proofs.Asked.{found-few, found-one, found-none, found-end}
 use native.Mathlib.Omega.{arith}
-use mathlib.Core.Option.{Option}
-use Rattle.values.specs.Meaning.{text_bytes, held}
-use Rattle.forms.proofs.Reading.{cell-got}
+use Rattle.values.specs.Meaning.{text_bytes}
 use Rattle.rules.specs.Layout.{parse}
-use Rattle.rules.specs.State.{is_row}
-use Rattle.laid.specs.Catalog.{place_of}
-use Rattle.store.proofs.References.{answer-is}
-use Rattle.operations.proofs.Asked.{found-end, found-broken, turn-found, turn-missed}
 use Rattle.operations.proofs.operate.found_count.Goals as goal
-use Rattle.operations.proofs.operate.found_count.Goals.{in-At, in_default}
-
-pub loop-left-init : goal.loop-left-init
-loop-left-init c = (omega arith, omega arith)
-
-pub get-requires : goal.get-requires
-get-requires c =
-    (c.requires.0, c.requires.1, (cell-got _ _ _ _ _ c.value_at.ensures c.in-Got.is).0)
 
 pub overflow_add-n : goal.overflow_add-n
-overflow_add-n c = omega (arith, c.loop-left.invariant.0, c.loop-left-test.true, c.ranges.count.fits)
+overflow_add-n c =
+    let rs = (parse c.args.p c.args.places c.args.s.now).rows in
+    let n = text_bytes c.args.name in
+    omega (arith, found-one rs n c.in-Some.ensures.steps.0 c.get.result c.get.ensures c.loop-cell.n c.loop-cell.invariant c.if-is_some.ensures, found-few rs n c.args.values, c.ranges.values.0)
 
-pub returns-in-Broken : goal.returns-in-Broken
-returns-in-Broken c =
-    let l = c.loop-left in
-    found-broken (parse c.args.p c.args.places c.args.s.now).rows (text_bytes c.args.name) c.args.rec.now l.left l.next l.n _ l.invariant.1 c.value_at.result c.value_at.ensures _ c.in-Broken.is
+pub loop-cell-preserved-then-is_some : goal.loop-cell-preserved-then-is_some
+loop-cell-preserved-then-is_some c = found-one _ _ c.in-Some.ensures.steps.0 c.get.result c.get.ensures _ c.loop-cell.invariant c.if-is_some.ensures
 
-pub loop-left-preserved : goal.loop-left-preserved
-loop-left-preserved c =
-    let l = c.loop-left in
-    let rows = (parse c.args.p c.args.places c.args.s.now).rows in
-    let name = text_bytes c.args.name in
-    let place : Option ℕ = place_of (is_row name (held c.in-Got.cell)) rows in
-    elim c.match-get.branch [
-      | in-At w ↦ (
-        omega (arith, w.n-is),
-        turn-found rows name c.args.rec.now l.left l.next l.n _ l.invariant.1 c.value_at.result c.value_at.ensures c.loop-left-test.true c.in-Got.cell c.in-Got.end c.in-Got.is _ _ w.next-is _
-            (answer-is {o = place} w.in-At.is c.get.ensures) w.n-is,
-      )
-      | in_default w ↦ (
-        omega (arith, w.n-is),
-        turn-missed rows name c.args.rec.now l.left l.next l.n _ l.invariant.1 c.value_at.result c.value_at.ensures c.loop-left-test.true c.in-Got.cell c.in-Got.end c.in-Got.is _ _ w.next-is
-            (answer-is {o = place} w.in_default.is c.get.ensures) w.n-is,
-      )
-    ]
+pub loop-cell-preserved : goal.loop-cell-preserved
+loop-cell-preserved c = found-none _ _ c.in-Some.ensures.steps.0 c.get.result c.get.ensures _ c.loop-cell.invariant c.if-is_some.ensures
 
 pub returns : goal.returns
-returns c =
-    let l = c.loop-left in
-    found-end (parse c.args.p c.args.places c.args.s.now).rows (text_bytes c.args.name) c.args.rec.now l.left l.next l.n _ l.invariant.1 (λ h. omega (arith, c.loop-left-test.false))
+returns c = found-end _ _ c.in-None.ensures.steps.0 _ c.loop-cell.invariant

@@ -1,6 +1,7 @@
 -- `requests::entry::many` meets its contract. Assumes nothing.
 use mathlib.Core.Path.{◌≡◌}
 use mathlib.Core.Bool.{true}
+use Rattle.std.specs.declared.result.Result.TheVariants.{Err}
 use Rattle.rules.specs.Profile.{full}
 use Rattle.rules.specs.Pages.{sound_books}
 use Rattle.rules.proofs.Widths.{full-indexed}
@@ -23,7 +24,7 @@ pub returns-then-out-ge-ANSWER_MOST : goal.returns-then-out-ge-ANSWER_MOST
 returns-then-out-ge-ANSWER_MOST c =
     let e = c.are_sound.ensures in
     many-from e.1 e.2
-    (many-told (tested e c.if-not-are_sound.true) c.refused.result c.refused.ensures c.if-out-ge-ANSWER_MOST.true c.put_answer-written.ensures.0)
+    (many-told (tested e c.if-not-are_sound.true) (Err c.new.result) c.new.ensures c.if-out-ge-ANSWER_MOST.true c.put_answer-written.ensures.0)
 
 pub returns-else-out-ge-ANSWER_MOST : goal.returns-else-out-ge-ANSWER_MOST
 returns-else-out-ge-ANSWER_MOST c =

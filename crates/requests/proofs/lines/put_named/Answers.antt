@@ -4,8 +4,7 @@ use Rattle.values.specs.Meaning.{Proper}
 use Rattle.values.specs.Value.{null}
 use Rattle.laid.proofs.Inside.{inside-header}
 use Rattle.laid.proofs.Stores.{held-inside, held-catalog}
-use Rattle.checks.proofs.Taking.{null-proper}
-use Rattle.requests.proofs.NextLines.{lined, none-lined, names-ended, names-inside, names-first}
+use Rattle.requests.proofs.NextLines.{names-ended, names-inside, names-first}
 use Rattle.requests.proofs.lines.put_named.Goals as goal
 
 pub table_count-requires : goal.table_count-requires
@@ -15,20 +14,27 @@ table_count-requires c =
 pub returns-then-table_count-i : goal.returns-then-table_count-i
 returns-then-table_count-i c =
     let a = c.args in
-    none-lined _ _ _ _ _ _ _ null-proper (names-ended a.p a.places a.s.now c.table_count.result c.table_count.ensures a.i null c.if-table_count-i.true) refl refl
+    (names-ended a.p a.places a.s.now c.table_count.result c.table_count.ensures a.i null c.if-table_count-i.true, refl)
 
-pub name_at-name-requires : goal.name_at-name-requires
-name_at-name-requires c =
+pub name_at-requires : goal.name_at-requires
+name_at-requires c =
     let a = c.args in
     (held-catalog a.p a.places a.s.now c.requires.0, names-inside a.p a.places a.s.now c.table_count.result c.table_count.ensures a.i c.if-table_count-i.false)
 
 pub put_single-requires : goal.put_single-requires
 unfolding Proper
-put_single-requires c = (c.requires.1, c.name_at-name.ensures.proper)
+put_single-requires c = (c.requires.1, c.name_at.ensures.proper)
 
 pub returns : goal.returns
+unfolding Proper
 returns c =
     let x = c.put_single in
-    let n = c.name_at-name in
+    let n = c.name_at in
     let a = c.args in
-    lined _ _ _ _ _ _ _ null-proper _ (names-first a.p a.places a.s.now c.table_count.result c.table_count.ensures a.i c.if-table_count-i.false n.result n.ensures null _) x.ensures.0 x.ensures.1
+    record {
+      values = _;
+      first = names-first a.p a.places a.s.now c.table_count.result c.table_count.ensures a.i c.if-table_count-i.false n.result n.ensures null _;
+      front = x.ensures.0;
+      short = x.ensures.1;
+      proper = tt;
+    }

@@ -1,0 +1,24 @@
+use Rattle.std.proofs.Common.{◌∙◌, ap, List, ℕ, ◌∷◌}
+use Rattle.values.specs.Area.{with_record}
+use Rattle.rules.specs.Pages.{event_record, journal_header}
+use Rattle.laid.proofs.Keyed.{row_within, row_read, row-bytes}
+use Rattle.laid.proofs.Stores.{held-inside}
+use Rattle.journal.proofs.turn.swap.Goals as goal
+
+pub row_record-requires-clause-inside : goal.row_record-requires-clause-inside
+row_record-requires-clause-inside c = held-inside c.args.p c.args.places c.args.s.now c.requires.laid_store.0
+
+pub row_record-requires-clause-i_in_bounds : goal.row_record-requires-clause-i_in_bounds
+row_record-requires-clause-i_in_bounds c = let h = c.requires.laid_store in row_within c.args.p c.args.places c.args.s.now h.0 c.args.k h.2.row.stored
+
+pub put_row-requires : goal.put_row-requires
+put_row-requires c = let h = c.requires.laid_store in (h.0.coded.known, row-bytes c.args.p c.args.places c.args.s.now h.0 c.args.k h.2.row.stored c.row_record.result.now c.row_record.ensures, c.requires.p_in_bounds)
+
+pub returns : goal.returns
+unfolding event_record
+returns c =
+    let h = c.requires.laid_store in
+    record {
+      store = c.replace_row.ensures;
+      journal = c.put_row.ensures ∙ ap (λ (l : List ℕ). with_record journal_header c.args.i (2 ∷ l) c.args.j.now) (c.row_record.ensures ∙ row_read c.args.p c.args.places c.args.s.now h.0 c.args.k h.2.row.stored);
+    }

@@ -1,0 +1,24 @@
+use Rattle.std.proofs.Common.{◌∙◌, rules}
+use Rattle.records.specs.Record.{create_at}
+use Rattle.records.proofs.Walking.{step, last, step_from, row-times, stop, thrown}
+use Rattle.records.proofs.record.create_end.Goals as goal
+
+pub returns-in_err-b : goal.returns-in_err-b
+unfolding create_at
+returns-in_err-b c =
+    thrown _ _ _ c.from_residual-in_err-b.ensures.1
+    (step _ _ _ _ c.in_ok-a.ensures (λ _. stop _ _ _ c.in_err-b.ensures))
+
+pub returns-in_err-c : goal.returns-in_err-c
+unfolding create_at
+returns-in_err-c c =
+    thrown _ _ _ c.from_residual-in_err-c.ensures.1
+    (step _ _ _ _ c.in_ok-a.ensures (λ _. step _ _ _ _ c.in_ok-b.ensures (λ _. stop _ _ _ c.in_err-c.ensures)))
+
+pub returns : goal.returns
+unfolding create_at
+returns c =
+    step _ _ _ _ c.in_ok-a.ensures
+    (λ _.
+    step _ _ _ _ c.in_ok-b.ensures
+    (λ _. step_from _ _ _ _ _ _ c.byte_of.ensures _ _ c.in_ok-c.ensures (last _ _ _ (c.times.ensures _ (λ at r l e. search rules) ∙ row-times _ _ _))))

@@ -1,0 +1,8 @@
+use Rattle.records.specs.Record.{keys_at}
+use Rattle.records.proofs.Walking.{step, last}
+use Rattle.records.proofs.record.keys_end.Goals as goal
+
+pub returns : goal.returns
+unfolding keys_at
+returns c =
+    step _ _ _ _ c.in_ok-a.ensures (λ _. last _ _ _ c.values_end.ensures)
