@@ -42,9 +42,9 @@ def functions(path, text):
         i = k + 1
 
 
-def found(files, pattern, of=lambda text: text):
+def found(files, pattern):
     for path, text in files:
-        for hit in re.finditer(pattern, of(text), re.M):
+        for hit in re.finditer(pattern, text, re.M):
             yield f'{path}:{text[:hit.start()].count(chr(10)) + 1} {hit.group(0).strip()[:80]}'
 
 
@@ -56,6 +56,8 @@ def parameters(f):
 def main():
     args = [a for a in sys.argv[1:] if a != '--list']
     top = Path(args[0]) if args else Path(__file__).resolve().parent.parent
+    if not (top / 'crates').is_dir():
+        sys.exit(__doc__)
     files = [(p.relative_to(top), re.sub(r'//.*|#\[.*', '', p.read_text())) for p in sorted(top.glob('crates/*/src/*.rt'))]
     fns = [f for path, text in files for f in functions(path, text)]
     shapes = {}

@@ -112,8 +112,7 @@ fn insert(s: &mut [u8], p: Profile, places: usize, j: &mut [u8], rec: &[u8], at:
     }
     let n = record::byte_of(rec, q) as usize;
     let from = q + 1;
-    let fault = executor::fills_fault(table, p, rec, m, from, n);
-    fault?;
+    executor::fills_fault(table, p, rec, m, from, n)?;
     insert_rows(s, p, places, j, t, rec, m, from, n)
 }
 
@@ -229,7 +228,7 @@ fn scan(s: &[u8], p: Profile, places: usize, rec: &[u8], at: usize) -> Answer
     Ok(walk::scan(s, p, places, name).len())
 }
 
-// The operations that write, and those of a batch; any other is broken.
+// The operations that write, and those of a batch.
 pub fn write(s: &mut [u8], p: Profile, places: usize, j: &mut [u8], rec: &[u8], k: u8) -> Answer
     requires { Booked p places s.old j.old × (reads k ≡ false) × (is_got (operands_at rec.now p k 2) ≡ true) }
     ensures { Acted p places (operands_at rec.now p k 2) s.old j.old s.new j.new result }
@@ -255,7 +254,7 @@ pub fn is_read(k: u8) -> bool
     matches!(k, 6..=9)
 }
 
-// The operations that read; any other is broken.
+// The operations that read.
 pub fn ask(s: &[u8], p: Profile, places: usize, rec: &[u8], k: u8) -> Answer
     requires { LaidStore p places s.now × (reads k ≡ true) × (is_got (operands_at rec.now p k 2) ≡ true) }
     ensures { Replied p places (operands_at rec.now p k 2) s.now result }

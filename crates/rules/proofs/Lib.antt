@@ -37,3 +37,4 @@ pub mod Turns
 pub mod Refusals
 pub mod Afterwards
 pub mod Noted
+pub mod Coded

@@ -41,18 +41,18 @@ returns-then-is_bad_map c =
 pub overflow_add-from : goal.overflow_add-from
 overflow_add-from c = omega (arith, (insert-said c.requires.1 c.in-Ok.ensures c.in-Ok-map_end.ensures).inside)
 
-pub fills_fault-fault-requires : goal.fills_fault-fault-requires
-fills_fault-fault-requires c = (
+pub fills_fault-requires : goal.fills_fault-requires
+fills_fault-requires c = (
   named-bytes c.requires.0.store _ c.in-Some.ensures c.table_record-table.ensures,
   c.requires.0.paging.most,
   c.read_map-m.ensures.1,
   (insert-said c.requires.1 c.in-Ok.ensures c.in-Ok-map_end.ensures).rows _ c.byte_of-n.ensures,
 )
 
-pub returns-in_err-fault : goal.returns-in_err-fault
-returns-in_err-fault c =
+pub returns-in_err-fills_fault : goal.returns-in_err-fills_fault
+returns-in_err-fills_fault c =
     acted-faulty c.requires.0 _ ((insert-said c.requires.1 c.in-Ok.ensures c.in-Ok-map_end.ensures).asks _ c.byte_of-n.ensures _ c.read_map-m.ensures.0) c.in-Some.ensures c.table_record-table.ensures
-    c.column_count.ensures c.if-is_bad_map.ensures c.in_err-fault.ensures (refused-by _ _ _ c.from_residual.ensures.1)
+    c.column_count.ensures c.if-is_bad_map.ensures c.in_err-fills_fault.ensures (refused-by _ _ _ c.from_residual.ensures.1)
 
 pub insert_rows-requires : goal.insert_rows-requires
 insert_rows-requires c = record {
@@ -64,10 +64,10 @@ insert_rows-requires c = record {
   );
   at_value =
       acted-fills c.requires.0 _ ((insert-said c.requires.1 c.in-Ok.ensures c.in-Ok-map_end.ensures).asks _ c.byte_of-n.ensures _ c.read_map-m.ensures.0) c.in-Some.ensures c.table_record-table.ensures
-      c.in_ok-fault.ensures;
+      c.in_ok-fills_fault.ensures;
 }
 
 pub returns : goal.returns
 returns c =
     acted-rows c.requires.0 _ ((insert-said c.requires.1 c.in-Ok.ensures c.in-Ok-map_end.ensures).asks _ c.byte_of-n.ensures _ c.read_map-m.ensures.0) c.in-Some.ensures c.table_record-table.ensures
-    c.column_count.ensures c.if-is_bad_map.ensures c.in_ok-fault.ensures c.insert_rows.ensures
+    c.column_count.ensures c.if-is_bad_map.ensures c.in_ok-fills_fault.ensures c.insert_rows.ensures
