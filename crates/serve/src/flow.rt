@@ -55,7 +55,9 @@ fn take_away(input: &mut [u8], have: usize, n: usize)
     requires have_in_bounds { have ≤ length input.old }
     ensures { take (have - n) input.new ≡ drop n (take have input.old) }
 {
-    input.copy_within(n..have, 0);
+    if 0 < n {
+        input.copy_within(n..have, 0);
+    }
 }
 
 // Passes over what is to be passed over, as far as it is at hand.
