@@ -8,10 +8,9 @@ use Rattle.forms.specs.Read.{Read}
 use Rattle.forms.specs.Print.{Front}
 use Rattle.values.specs.Meaning.{held, ProperCell}
 use Rattle.rules.specs.declared.profile.Profile.{Profile}
-use Rattle.rules.specs.Request.{Answer}
 use Rattle.rules.specs.State.{Table, Row, State, rows_of}
 use Rattle.rules.specs.Journal.{Journal, Books}
-use Rattle.rules.specs.Request.{Request, Create, Drop, Insert, Update, Delete, Get, Lookup, Scan, Names, Open, Keep, Back, said}
+use Rattle.rules.specs.Request.{Answer, Request, Create, Drop, Insert, Update, Delete, Get, Lookup, Scan, Names, Open, Keep, Back, said}
 use Rattle.rules.specs.Step.{Outcome, found, lookup, is_accepted}
 use Rattle.walks.specs.Looked.{keys_with}
 use Rattle.operations.specs.Told.{outcome_of}
