@@ -67,6 +67,13 @@ module _ {A B : Type 0} (f : A → B) (p : B → Bool) where
   falls-map [] h = tt
   falls-map (x ∷ xs) h = (λ e. count_map xs ∙ h.0 e, falls-map xs h.1)
 
+-- ---- a turn of the search brings lo and hi nearer
+pub up-less : (lo hi : ℕ) → lo < hi → hi - (lo + (hi - lo) / 2 + 1) < hi - lo
+up-less lo hi l = omega arith
+
+pub down-less : (lo hi : ℕ) → lo < hi → lo + (hi - lo) / 2 - lo < hi - lo
+down-less lo hi l = omega arith
+
 -- ---- the record in the middle of those from lo to hi
 module _ (s : List ℕ) (count w lo hi : ℕ) (l : lo < hi) (h : hi ≤ count) (k : count * w ≤ length s) where
   pub middle-fits : (lo + (hi - lo) / 2) * w + w ≤ length s

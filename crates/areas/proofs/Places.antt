@@ -6,13 +6,22 @@ use native.Mathlib.Omega.{arith}
 use mathlib.Core.List.{List, ◌++◌}
 use lib.ListN.{length, take, drop, length-take, length-drop}
 use borrow.Rule.Slice.PartMut.{put_mid}
-use Rattle.values.specs.Area.{inserted, closed, part, inserted_at, removed_at, with_record, Taken, Place}
+use Rattle.values.specs.Area.{inserted, closed, part, inserted_at, removed_at, with_record, Spare, Taken, Room, Place}
 use Rattle.areas.specs.Records.{Wide, area}
 use Rattle.areas.specs.Sorted.{insert_at, remove_run}
 use Rattle.areas.proofs.Nest.{part_of, with-of, mid_back}
-use Rattle.areas.proofs.Records.{insert-area, remove-area, length-area, run_fits}
+use Rattle.areas.proofs.Records.{insert-area, remove-area, length-area, times-lt, run_fits}
 
 module _ (s : List ℕ) (from places count at w : ℕ) where
+  pub spare-place : Spare s from places count at w → (at * w ≤ count * w) × (count * w + w ≤ places * w)
+  spare-place h = (mul-le-mul_right w h.at-le, times-lt count places w h.room)
+
+  pub spare-room : Spare s from places count at w → Room (take (from + places * w - from) (drop from s)) (at * w) (count * w) w
+  spare-room h =
+      let p = spare-place h in
+      let i = h.inside in
+      record { at-le = p.0; fits = simp (length-take, length-drop) (omega arith) }
+
   pub inserted-back : (r y : List ℕ) → length r ≡ w → y ≡ inserted (at * w) (count * w) r (take (from + places * w - from) (drop from s)) → put_mid from (from + places * w - from) s y ≡ inserted_at from places count at r s
   unfolding inserted_at part
   inserted-back r y l e =

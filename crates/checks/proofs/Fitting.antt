@@ -4,7 +4,7 @@ use mathlib.Core.Path.{◌≡◌, refl, sym, ap, ◌∙◌}
 use mathlib.Core.Bool.{Bool, true, false, not, ◌&&◌, true≢false}
 use mathlib.Core.Option
 use mathlib.Core.Option.{Option, none, some, some-injective}
-use Prim.Native.Nat.{ℕ, ◌+◌, ◌≤◌, ◌<◌}
+use Prim.Native.Nat.{ℕ, suc, ◌+◌, ◌≤◌, ◌<◌}
 use native.Mathlib.Nat.{zero-add}
 use native.Mathlib.Numerals.{add-one}
 use native.Mathlib.Omega.{arith}
@@ -39,8 +39,20 @@ use Rattle.laid.proofs.Stores.{held-state, held-catalog}
 use Rattle.laid.proofs.Finding.{drop_nth, nth-map, nth-get_or, all-nth}
 use Rattle.laid.proofs.Columns.{columns_of, name-read, key-byte, columns-few, column-nth, column-drop}
 use Rattle.laid.proofs.Searching.{tables-count, table_at, table-bytes-at}
-use Rattle.checks.proofs.Faulting.{or-first, or-second}
+use Rattle.checks.proofs.Faulting.{or-first, or-second, Told, told, or-told}
 use Rattle.checks.proofs.Checking.{key_below}
+
+-- ---- a cell's fault is none of the accepted
+
+cell-told : (rs : List S.Row) (t : Table) (update : Bool) (key : Value) (i : ℕ) (c : Column) (v : Value) → Told (cell_fault rs t update key i c v)
+unfolding cell_fault
+cell-told rs t update key i c v = told _ (refl, (refl, (refl, (refl, tt))))
+
+pub cells_told : (rs : List S.Row) (t : Table) (update : Bool) (key : Value) (i : ℕ) (cs : List Column) (vs : List Value) → Told (cells_fault rs t update key i cs vs)
+unfolding cells_fault
+cells_told rs t update key i [] vs = λ k e. absurd (cc)
+cells_told rs t update key i (c ∷ cs) [] = λ k e. absurd (cc)
+cells_told rs t update key i (c ∷ cs) (v ∷ vs) = or-told (cell_fault rs t update key i c v) _ (cell-told rs t update key i c v) (cells_told rs t update key (suc i) cs vs)
 
 -- ---- a unique column other than the key is indexed
 

@@ -17,17 +17,18 @@ use Rattle.rules.specs.State.{Row, State}
 use Rattle.rules.specs.Journal.{Event, absent, stood, put, stand, unwound, turned, roomy}
 use Rattle.rules.specs.Layout.{image, parse}
 use Rattle.rules.specs.Sound.{every, good_event, good_cells}
+use Rattle.rules.specs.Pages.{journal_length, open_image, journal_places}
 use Rattle.rules.proofs.Tests.{and_left, and_right, and_both, all_head, all_tail}
 use Rattle.rules.proofs.Trip.{canonical-normal}
 use Rattle.rules.proofs.Valid.{LaidState}
 use Rattle.rules.proofs.Removed.{with_rows}
 use Rattle.rules.proofs.Unwinding.{Normal, NormalEvent, turn-rows, turn-event}
 use Rattle.laid.proofs.Finding.{nth-get_or}
-use Rattle.laid.proofs.Stores.{held-state}
+use Rattle.laid.proofs.Stores.{held-state, held-inside}
 use Rattle.journal.specs.Turn.{event_at, events_in, Batch, PlaceIn, Turnable, Turned}
 use Rattle.journal.specs.Back.{rows_of, events_of, fits, Halfway, Unwinds, Rewindable, Rewinds}
 use Rattle.journal.proofs.Events.{its-row, put-laid}
-use Rattle.journal.proofs.Turning.{at_i}
+use Rattle.journal.proofs.Turning.{at_i, batch-long}
 use Rattle.journal.proofs.Onward.{next-parse, next-events, next-places, next-batch}
 
 -- what stands past the end of a list of places
@@ -102,9 +103,22 @@ module _ {p : Profile} {R : ℕ} {s₀ j₀ : List ℕ} {i : ℕ} {s j : List �
       ∙ ap length m.events
       ∙ simp (length-append, length-take, length-drop, turned-long) (omega (arith, m.inside))
 
+  pub half-lengths : Halfway p R s₀ j₀ i s j → (length s ≡ length s₀) × (length j ≡ length j₀)
+  half-lengths m = (
+    (held-inside p R s m.batch.store).long ∙ sym (held-inside p R s₀ m.before.store).long,
+    batch-long m.batch ∙ ap (journal_length p) m.places ∙ sym (batch-long m.before),
+  )
+
   -- every byte of both
   pub half-store : Halfway p R s₀ j₀ i s j → s ≡ image p R (with_rows (parse p R s₀) (unwound (drop i (events_of p R s₀ j₀)) (rows_of p R s₀)))
   half-store m = m.batch.store.bytes ∙ ap (image p R) m.state
+
+  pub half-journal : Halfway p R s₀ j₀ i s j
+      → j ≡ open_image p (journal_places p j₀) (take i (events_of p R s₀ j₀) ++ turned (drop i (events_of p R s₀ j₀)) (rows_of p R s₀))
+  half-journal m =
+      m.batch.bytes ∙ ap (λ (x : State). open_image p (journal_places p j) (events_in p x.tables j)) m.state
+      ∙ ap (open_image p (journal_places p j)) m.events
+      ∙ ap (λ (n : ℕ). open_image p n (take i (events_of p R s₀ j₀) ++ turned (drop i (events_of p R s₀ j₀)) (rows_of p R s₀))) m.places
 
   pub half_place : {k : ℕ} → Halfway p R s₀ j₀ i s j → k < length (events_of p R s₀ j₀) → PlaceIn p R s j k
   half_place m l = record { batch = m.batch; within = omega (arith, half-long m) }

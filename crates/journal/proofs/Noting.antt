@@ -10,14 +10,14 @@ use lib.Dec.{eqb, leb, ltb}
 use lib.ListN.{length, get_or, take, drop, set, replicate, length-map, length-replicate}
 use borrow.Author.Tests.{le-leb, lt-leb, ltb-false, ltb-true}
 use Rattle.values.specs.Basic.{maybe}
-use Rattle.values.specs.Area.{with_record}
+use Rattle.values.specs.Area.{record_at, with_record}
 use Rattle.values.specs.Bytes.{be}
 use Rattle.areas.specs.Records.{joined, area, filled, Wide}
 use Rattle.areas.specs.Sorted.{insert_at, replace_at}
 use Rattle.areas.specs.Counted.{framed, Frame, Fresh, Grows, count_at, grown}
 use Rattle.areas.proofs.Records.{times-lt}
 use Rattle.areas.proofs.Changes.{map-replace-at, map-insert-at}
-use Rattle.areas.proofs.Counting.{framed-length, framed-count, grown-framed, frame-insert, opened-recorded, written-framed, grows}
+use Rattle.areas.proofs.Counting.{framed-length, framed-count, grown-framed, frame-insert, opened-recorded, written-framed, record-framed, grows}
 use Rattle.rules.specs.declared.profile.Profile.{Profile}
 use Rattle.rules.specs.Journal.{Event, Journal, lacks}
 use Rattle.rules.specs.Pages.{journal_most, used_at, journal_header, event_width, journal_length, event_record, open_image, journal_image, journal_places}
@@ -56,6 +56,10 @@ module _ (p : Profile) (J : ℕ) (most : J ≤ journal_most) (es : List Event) (
   pub open-used : count_at used_at 2 (open_image p J es) ≡ length es
   unfolding open_image
   open-used = framed-count (1 ∷ []) used_at 2 [] journal_header (event_width p) J rs [] open-frame ∙ length-map es (event_record p)
+
+  pub open-record : (i : ℕ) → i < length es → record_at journal_header (event_width p) i (open_image p J es) ≡ get_or (map (event_record p) es) i []
+  unfolding open_image
+  open-record i h = record-framed (1 ∷ []) used_at 2 [] journal_header (event_width p) J rs [] open-frame i (rw length-map h)
 
   pub open-within : (i : ℕ) → i < J → journal_header + i * event_width p + event_width p ≤ length (open_image p J es)
   unfolding journal_length

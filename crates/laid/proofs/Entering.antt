@@ -165,3 +165,7 @@ module _ (p : Profile) (R : ℕ) (s : List ℕ) (b : Entered p R s) (e : Entry) 
   exchange-done new q h y m =
       subst (λ (z : Bool). Laid p R y (cond z (lists p R s) (entry_added p R new (layout p R (entry_removed p R e s))))) (sym h)
       (subst (λ (z : List ℕ). Laid p R y (entry_added p R new z)) l.whole m)
+
+-- the same value: nothing changes
+pub exchange-none : (p : Profile) (R : ℕ) (s : List ℕ) → Entered p R s → (q : Bool) (x : Lists) → q ≡ true → Laid p R s (cond q (lists p R s) x)
+exchange-none p R s b q x h = subst (λ (z : Bool). Laid p R s (cond z (lists p R s) x)) (sym h) b.laid

@@ -17,6 +17,10 @@ use Rattle.rules.specs.Layout.{lists, Area, Schemas, Rows, Entries, count_place,
 use Rattle.rules.proofs.Widths.{header-within, area-within, place-within}
 use Rattle.laid.specs.Store.{Inside}
 
+-- a bound on a product, at the code's own number for a width
+pub times-most : {w v : ℕ} (n m : ℕ) → w ≡ v → n * v ≤ m → n * w ≤ m
+times-most n m e h = rw e h
+
 -- each record has room for the name that it starts with
 pub name-within : (p : Profile) (a : Area) → name_width ≤ record_width p a
 unfolding schema_width row_width entry_width

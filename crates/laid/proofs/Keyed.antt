@@ -25,7 +25,7 @@ use Rattle.rules.specs.Profile.{row_width, rows_at}
 use Rattle.rules.specs.State.{Row, cmp_row, table_named, is_row, cell_at}
 use Rattle.rules.specs.Sound.{canonical}
 use Rattle.rules.specs.Layout.{lists, Rows, rows_count, row_record, records_of, parse}
-use Rattle.rules.proofs.Widths.{cell-within}
+use Rattle.rules.proofs.Widths.{cell-within, row-most}
 use Rattle.rules.proofs.Tests.{every-at}
 use Rattle.rules.proofs.Lists.{nth_in, nth-below, below-nth, map_at_lem}
 use Rattle.rules.proofs.Index.{ord_row}
@@ -125,9 +125,12 @@ module _ (p : Profile) (R : ℕ) (s : List ℕ) (b : LaidStore p R s) where
     abbrev at : ℕ
     at = name_width + column * p.cell
 
-    -- the key's cell lies inside
+    -- the key's cell lies inside, and its offset fits a machine word
     pub key-room : at + cell_width ≤ row_width p
     key-room = cell_room p b.coded.known.cell column kc.inside
+
+    pub key-small : at ≤ 1049
+    key-small = omega (arith, key-room, row-most p b.coded.known)
 
     -- a row of the table has its key in the key column
     key-read : (r : Row) → In r rows → r.table ≡ n → read_value (drop at (row_record p r)) ≡ r.key

@@ -54,6 +54,9 @@ unfolding run_from
 run_none n rs i h = rw (drop_of_length-le rs h)
 
 module _ (n : List ℕ) (w count : ℕ) (s : List ℕ) (at : ℕ) where
+  pub run-start : at ≤ count → RunTo n w count s at at
+  run-start h = record { from = omega arith; within = h; run = omega arith }
+
   module _ (end : ℕ) (r : RunTo n w count s at end) where
     pub run_past : count ≤ end → count - at ≡ run_from n (drop at (records w count s))
     run_past h = let z = run_none n (records w count s) end (omega (arith, length-records w count s)) in omega (arith, r.run, r.within)
@@ -205,8 +208,8 @@ module _ {p : Profile} {R : ℕ} {a : Area} {n s : List ℕ} (r : RunIn p R a n 
       by_area Rows = (omega arith, omega (arith, laid-header p R s (lists p R s) r.laid))
       by_area Entries = (omega arith, omega (arith, laid-header p R s (lists p R s) r.laid))
 
-  pub run-start : from ≤ length s
-  run-start = area-start p R a n s r from w m x.start x.wide x.room
+  pub run-begins : from ≤ length s
+  run-begins = area-start p R a n s r from w m x.start x.wide x.room
 
   pub run-wide : 25 ≤ w
   run-wide = omega (arith, x.wide, name-within p a)

@@ -1,5 +1,5 @@
--- A row in flight: at most eight cells. Assumes nothing.
-use Rattle.std.specs.Prelude.{◌≡◌, ℕ, ◌≤◌, ◌<◌, true, false, List, [], map, length}
+-- A row in flight: the first of eight cells. Assumes nothing.
+use Rattle.std.specs.Prelude.{◌≡◌, ℕ, ◌≤◌, ◌<◌, true, false, List, [], map, length, take}
 use Rattle.std.proofs.Math.Option.{none, some}
 use Rattle.values.specs.Basic.{nth, or_default}
 use Rattle.values.specs.Value.{Value, null, same, normalised}
@@ -12,8 +12,13 @@ use Rattle.rules.specs.State.{Table, table_named, has_row, key_of, row_of}
 use Rattle.rules.specs.Layout.{parse, unknown}
 use Rattle.rules.specs.Step.{added, replaced, apply}
 use Rattle.rules.specs.Sound.{laid}
+use Rattle.laid.specs.declared.row.Row.{Row}
 
--- its values
+-- the cells that it holds
+abbrev pub in_flight : Row → List Cell
+in_flight r = take r.count r.cells
+
+-- their values
 unfoldable pub cells_of : List Cell → List Value
 cells_of r = map held r
 

@@ -1,7 +1,9 @@
 // Stored schemas: a table record's columns, and the place of a table (local.rs: `get_table`).
-ghost use Rattle.std.specs.Prelude.{◌≡◌, ◌+◌, ◌≤◌, ◌<◌, length, get_or};
-ghost use Rattle.values.specs.Cell.{name_width, cell_width};
-ghost use Rattle.values.specs.Meaning.{text_bytes, Packed};
+ghost use Rattle.std.specs.Prelude.{◌≡◌, ◌+◌, ◌≤◌, ◌<◌, length, get_or, drop, IfSome};
+ghost use Rattle.std.proofs.Math.Option.{map};
+ghost use Rattle.values.specs.Basic.{only_if};
+ghost use Rattle.values.specs.Cell.{name_width, cell_width, read_name, read_value};
+ghost use Rattle.values.specs.Meaning.{text_bytes, Packed, held, ProperCell, option_of};
 ghost use Rattle.rules.specs.State.{is_named};
 ghost use Rattle.rules.specs.Layout.{bit, read_column, read_table, parse};
 ghost use Rattle.rules.specs.Schema.{key_kind};
@@ -42,23 +44,46 @@ fn column_record(rec: &[u8], p: Profile, i: usize) -> &[u8]
     area::record_at(rec, layout::TABLE_COLUMNS, layout::column_width(p), i)
 }
 
-// Column i of a table record.
+// The default in a column's bytes, if it has one.
+fn default_in(col: &[u8]) -> Option<Cell>
+    requires { name_width + 2 + cell_width ≤ length col.now }
+    ensures { (map held (option_of result) ≡ only_if (bit 2 (get_or col.now 26 0)) (read_value (drop 27 col.now))) × IfSome result ProperCell }
+{
+    if flag(col[layout::COLUMN_FLAGS], layout::DEFAULTED) {
+        Some(cell::read_cell(&col[layout::COLUMN_DEFAULT..]))
+    } else {
+        None
+    }
+}
+
+// The table that a column's bytes refer to, if they do.
+fn reference_in(col: &[u8]) -> Option<Text>
+    requires { name_width + 2 + cell_width + name_width ≤ length col.now }
+    ensures { (map text_bytes (option_of result) ≡ only_if (bit 16 (get_or col.now 26 0)) (read_name (drop 53 col.now))) × IfSome result Packed }
+{
+    if flag(col[layout::COLUMN_FLAGS], layout::REFERENCES) {
+        Some(cell::read_name(&col[layout::COLUMN_REFERENCE..]))
+    } else {
+        None
+    }
+}
+
+// Column i of a table record. It is inlined, so that a caller pays for the parts alone that it looks at.
+#[inline(always)]
 pub fn read_column(rec: &[u8], p: Profile, i: usize) -> Column
     requires { TableBytes p rec.now × (i < p.columns) }
     ensures { ColumnRead p rec.now i result }
 {
     let col = column_record(rec, p, i);
     let flags = col[layout::COLUMN_FLAGS];
-    let default = cell::read_cell(&col[layout::COLUMN_DEFAULT..]);
-    let reference = cell::read_name(&col[layout::COLUMN_REFERENCE..]);
     Column {
         name: cell::read_name(col),
         kind: col[layout::COLUMN_KIND],
         nullable: flag(flags, layout::NULLABLE),
         unique: flag(flags, layout::UNIQUE),
         index: flag(flags, layout::INDEXED),
-        default: flag(flags, layout::DEFAULTED).then_some(default),
-        reference: flag(flags, layout::REFERENCES).then_some(reference),
+        default: default_in(col),
+        reference: reference_in(col),
     }
 }
 

@@ -1,5 +1,5 @@
 // Rows by place: a row in flight, a row's cells in the store, the place of a key.
-ghost use Rattle.std.specs.Prelude.{◌≡◌, ◌+◌, ◌*◌, ◌<◌, length, drop};
+ghost use Rattle.std.specs.Prelude.{◌≡◌, ◌+◌, ◌*◌, ◌<◌, [], ◌∷◌, ◌++◌, length, drop};
 ghost use Rattle.values.specs.Cell.{name_width, read_value};
 ghost use Rattle.rules.specs.Profile.{row_width};
 ghost use Rattle.values.specs.Basic.{is_lt};
@@ -9,20 +9,55 @@ ghost use Rattle.rules.specs.State.{cmp_row, is_row, cell_at};
 ghost use Rattle.rules.specs.Layout.{parse};
 ghost use Rattle.laid.specs.Store.{Coded, LaidStore};
 ghost use Rattle.laid.specs.Catalog.{place_of, found_at};
-ghost use Rattle.laid.specs.Row.{row_in, KeyColumn, keyed};
+ghost use Rattle.laid.specs.Row.{in_flight, row_in, KeyColumn, keyed};
 
 use super::layout;
 use areas::search;
-use arrayvec::ArrayVec;
 use rules::profile::Profile;
+use std::ops::DerefSlice;
 use values::cell;
 use values::value::{Cell, Text, Value};
 
 // A row in flight has room for so many cells: document 01's columns.
 pub const CELLS_MOST: usize = 8;
 
-// The values of a row on their way into the store.
-pub type Row = ArrayVec<Cell, CELLS_MOST>;
+// The values of a row on their way into the store: the first `count` of the cells. It is lent as a slice.
+#[derive(Clone, Copy)]
+pub struct Row {
+    pub cells: [Cell; CELLS_MOST],
+    pub count: usize,
+}
+
+impl Row {
+    // No value yet.
+    pub fn new() -> Row
+        ensures { in_flight result ≡ [] }
+    {
+        Row {
+            cells: [Cell { value: Value::Null }; CELLS_MOST],
+            count: 0,
+        }
+    }
+
+    // A value more, behind the others.
+    pub fn push(&mut self, cell: Cell)
+        requires { length (in_flight self.old) < 8 }
+        ensures { in_flight self.new ≡ in_flight self.old ++ cell ∷ [] }
+    {
+        self.cells[self.count] = cell;
+        self.count += 1;
+    }
+}
+
+impl DerefSlice for Row {
+    type Elem = Cell;
+
+    ghost deref_gives = { λ v xs. xs ≡ in_flight v };
+
+    fn deref(&self) -> &[Cell] {
+        &self.cells[..self.count.min(CELLS_MOST)]
+    }
+}
 
 // Cell j of a row's record.
 pub fn cell_in(rec: &[u8], p: Profile, j: usize) -> Cell

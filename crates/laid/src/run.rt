@@ -1,10 +1,13 @@
 // The records of one table, which stand together in an area: how many they are, and a dropped table's rows and index entries taken out all at once.
-ghost use Rattle.std.specs.Prelude.{◌≡◌, ℕ, ◌*◌, ◌≤◌, length, drop};
+ghost use Rattle.std.specs.Prelude.{◌≡◌, ◌*◌, ◌≤◌, length, drop};
+ghost use Rattle.values.specs.Basic.{is_lt};
 ghost use Rattle.values.specs.Meaning.{text_bytes, Packed};
 ghost use Rattle.values.specs.Cell.{name_width};
 ghost use Rattle.areas.specs.Records.{records};
-ghost use Rattle.rules.specs.Layout.{Area, Rows, Entries};
-ghost use Rattle.laid.specs.Catalog.{run_from, RunIn, RunOut, AreaIs};
+ghost use Rattle.areas.specs.Sorted.{count_of};
+ghost use Rattle.areas.specs.Search.{cmp_named, SearchIn};
+ghost use Rattle.rules.specs.Layout.{Rows, Entries};
+ghost use Rattle.laid.specs.Catalog.{run_from, RunIn, RunOut};
 
 use super::layout;
 use super::layout::{ENTRIES_BYTES, ENTRIES_COUNT, ROWS_BYTES, ROWS_COUNT};
@@ -26,24 +29,14 @@ pub fn run_from(area: &[u8], width: usize, count: usize, at: usize, name: Text) 
     count - at
 }
 
-// Takes the records that start with `name` out of an area, all at once; the k bytes at `cat` count its records, which start at `from`.
-fn drop_run(
-    s: &mut [u8],
-    cat: usize,
-    k: usize,
-    from: usize,
-    places: usize,
-    width: usize,
-    name: Text,
-)
-    requires run { (p : Profile) × (R : ℕ) × (a : Area) × RunIn p R a (text_bytes name) s.old × AreaIs p R a cat k from places width }
-    requires packed { Packed name }
-    ensures { (p : Profile) (R : ℕ) (a : Area) → RunIn p R a (text_bytes name) s.old → AreaIs p R a cat k from places width → RunOut p R a (text_bytes name) s.old s.new }
+// Where the records that start with `name` begin among the `count` records, and how many they are.
+fn run_of(area: &[u8], width: usize, count: usize, name: Text) -> (usize, usize)
+    requires name_width_le_width { (name_width ≤ width) × Packed name }
+    requires search_in { SearchIn (λ r. is_lt (cmp_named r (text_bytes name))) area.now count width }
+    ensures { (result.0 ≡ count_of (λ x. is_lt (cmp_named x (text_bytes name))) (records width count area.now)) × (result.1 ≡ run_from (text_bytes name) (drop result.0 (records width count area.now))) }
 {
-    let count = area::count_at(s, cat, k);
-    let i = search::named_before(&s[from..], count, width, name);
-    let n = run_from(&s[from..], width, count, i, name);
-    area::close_counted(s, cat, k, from, places, width, i, n);
+    let i = search::named_before(area, count, width, name);
+    (i, run_from(area, width, count, i, name))
 }
 
 // Takes a table's rows out, all at once.
@@ -53,7 +46,9 @@ pub fn drop_rows(s: &mut [u8], p: Profile, places: usize, name: Text)
 {
     let from = layout::rows_at(p);
     let width = layout::row_width(p);
-    drop_run(s, ROWS_COUNT, ROWS_BYTES, from, places, width, name);
+    let count = area::count_at(s, ROWS_COUNT, ROWS_BYTES);
+    let (i, n) = run_of(&s[from..], width, count, name);
+    area::close_counted(s, ROWS_COUNT, ROWS_BYTES, from, places, width, i, n);
 }
 
 // Takes a table's index entries out, all at once.
@@ -64,5 +59,7 @@ pub fn drop_entries(s: &mut [u8], p: Profile, places: usize, name: Text)
     let from = layout::entries_at(p, places);
     let width = layout::entry_width(p);
     let most = p.entries * places;
-    drop_run(s, ENTRIES_COUNT, ENTRIES_BYTES, from, most, width, name);
+    let count = area::count_at(s, ENTRIES_COUNT, ENTRIES_BYTES);
+    let (i, n) = run_of(&s[from..], width, count, name);
+    area::close_counted(s, ENTRIES_COUNT, ENTRIES_BYTES, from, most, width, i, n);
 }

@@ -6,8 +6,8 @@ use Rattle.values.specs.Value.{Value}
 use Rattle.values.specs.Meaning.{held, option_of}
 use Rattle.values.specs.declared.value.Cell.{Cell}
 use Rattle.rules.specs.Request.{Pair}
-use Rattle.arrayvec.specs.ArrayVec.{ArrayVec}
-use Rattle.laid.specs.Row.{cells_of}
+use Rattle.laid.specs.declared.row.Row.{Row}
+use Rattle.laid.specs.Row.{in_flight, cells_of}
 use Rattle.mapping.specs.declared.executor.Map.{Map}
 use Rattle.records.specs.Reading.{times}
 use Rattle.mapping.specs.Got.{got_or}
@@ -24,8 +24,8 @@ abbrev pub given_of : Held Cell → Option Value
 given_of g = map held (option_of g)
 
 -- a row, where all of its columns are filled
-abbrev pub filled_of : Held (ArrayVec Cell) → Option (List Value)
-filled_of r = map (λ (x : ArrayVec Cell). cells_of x.items) (option_of r)
+abbrev pub filled_of : Held Row → Option (List Value)
+filled_of r = map (λ (x : Row). cells_of (in_flight x)) (option_of r)
 
 -- the rows and the pairs from a position on
 unfoldable pub rows_at : List ℕ → ℕ → ℕ → List (List Value)

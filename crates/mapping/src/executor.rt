@@ -6,7 +6,7 @@ ghost use Rattle.rules.specs.Layout.{read_table};
 ghost use Rattle.rules.specs.Rows.{bad_map, mapped, given, fill as filled, fill_fault, fills_fault};
 ghost use Rattle.laid.specs.Catalog.{TableBytes};
 ghost use Rattle.checks.specs.Faults.{broken_rule, fault_of};
-ghost use Rattle.laid.specs.Row.{ProperRow};
+ghost use Rattle.laid.specs.Row.{in_flight, ProperRow};
 ghost use Rattle.checks.specs.Keys.{values_of};
 ghost use Rattle.records.specs.Reading.{times};
 ghost use Rattle.mapping.specs.Got.{is_got, got_or};
@@ -88,7 +88,7 @@ fn given_value(rec: &[u8], m: Option<Map>, mut values: Values<'_>, j: usize) -> 
 // The full row of a table record from given values and defaults; none where a column has neither.
 pub fn fill(table: &[u8], p: Profile, rec: &[u8], m: Option<Map>, values: Values<'_>) -> Option<Row>
     requires { TableBytes p table.now × (p.columns ≤ 8) × MapIn rec.now m }
-    ensures { (filled_of result ≡ filled (given (map_of rec.now m) (values_of values.entry)) 0 (read_table p table.now).columns) × IfSome result (λ r. ProperRow r.items) }
+    ensures { (filled_of result ≡ filled (given (map_of rec.now m) (values_of values.entry)) 0 (read_table p table.now).columns) × IfSome result (λ r. ProperRow (in_flight r)) }
 {
     let mut row = Row::new();
     for j in 0..catalog::column_count(table) {

@@ -4,7 +4,7 @@ ghost use Rattle.rules.specs.Layout.{read_table};
 ghost use Rattle.rules.specs.Rows.{rising_fault, size_fault};
 ghost use Rattle.laid.specs.Catalog.{TableBytes};
 ghost use Rattle.checks.specs.Faults.{fault_of};
-ghost use Rattle.laid.specs.Row.{cells_of, ProperRow};
+ghost use Rattle.laid.specs.Row.{in_flight, cells_of, ProperRow};
 ghost use Rattle.checks.specs.Keys.{values_of};
 ghost use Rattle.records.specs.Reading.{times};
 ghost use Rattle.mapping.specs.Got.{is_got};
@@ -77,7 +77,7 @@ pub fn size_fault(table: &[u8], p: Profile, rec: &[u8], at: usize, n: usize) -> 
 // The row of these values.
 pub fn read_row(values: Values<'_>) -> Row
     requires { (values.count ≤ 8) × (length (values_of values) ≡ values.count) }
-    ensures { (cells_of result.items ≡ values_of values.entry) × ProperRow result.items × (length result.items ≡ values.entry.count) }
+    ensures { (cells_of (in_flight result) ≡ values_of values.entry) × ProperRow (in_flight result) × (length (in_flight result) ≡ values.entry.count) }
 {
     let mut row = Row::new();
     for cell in values {

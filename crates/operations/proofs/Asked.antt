@@ -28,6 +28,7 @@ use Rattle.rules.specs.Step.{found, lookup, act}
 use Rattle.laid.specs.Catalog.{found_at, place_of}
 use Rattle.checks.specs.Keys.{on_read, values_from, values_of}
 use Rattle.checks.specs.declared.keys.Values.{Values}
+use Rattle.walks.specs.declared.walk.Span.{Span}
 use Rattle.walks.specs.Spans.{Spans}
 use Rattle.checks.proofs.Checking.{place-some, place_none}
 use Rattle.laid.proofs.Inside.{area-count}
@@ -117,10 +118,10 @@ module _ (p : Profile) (R : ℕ) (b : Books) (q : Request) (a : Answer) where
   unfolding act
   lookup-answered n i vs e h = h ∙ rw e
 
-  scan-answered : (n : Name) → q ≡ Scan n → (x y : ℕ) → Spans b.store.rows n x y → said a ≡ ok (y - x) → said a ≡ (act p R b q).reply
+  scan-answered : (n : Name) → q ≡ Scan n → (x : Span) → Spans b.store.rows n x → said a ≡ ok (x.to - x.from) → said a ≡ (act p R b q).reply
   unfolding act
-  scan-answered n e x y s h =
-      let l : y - x ≡ length (rows_of b.store.rows n) =
+  scan-answered n e x s h =
+      let l : x.to - x.from ≡ length (rows_of b.store.rows n) =
       rw s.are (simp (length-take, length-drop) (omega (arith, s.start, s.inside)))
       in
       h ∙ ap ok (l ∙ sym (length-map (rows_of b.store.rows n) (λ (r : Row). r.cells))) ∙ rw e
@@ -179,8 +180,8 @@ module _ {s : List ℕ} {from : ℕ} {t : Text} {q : ℕ} (e : NameRead s from (
   unfolding scan_at
   scan-is = got-gives Names (scan_at s from) (Scan (text_bytes t)) q (named-then e (λ name a. got (Scan name) a))
 
-  pub scan-says : (p : Profile) (R : ℕ) (b : Books) {x y : ℕ} → Spans b.store.rows (text_bytes t) x y → {c : ℕ} → c ≡ y - x → ok c ≡ (act p R b (got_or Names (scan_at s from))).reply
-  scan-says p R b {x} {y} g {c} ec = scan-answered p R b (got_or Names (scan_at s from)) (Ok c) (text_bytes t) scan-is x y g (ap ok ec)
+  pub scan-says : (p : Profile) (R : ℕ) (b : Books) {x : Span} → Spans b.store.rows (text_bytes t) x → {c : ℕ} → c ≡ x.to - x.from → ok c ≡ (act p R b (got_or Names (scan_at s from))).reply
+  scan-says p R b {x} g {c} ec = scan-answered p R b (got_or Names (scan_at s from)) (Ok c) (text_bytes t) scan-is x g (ap ok ec)
 
 -- ---- operation k, where it is known
 

@@ -112,7 +112,9 @@ fn insert(s: &mut [u8], p: Profile, places: usize, j: &mut [u8], rec: &[u8], at:
     }
     let n = record::byte_of(rec, q) as usize;
     let from = q + 1;
-    executor::fills_fault(table, p, rec, m, from, n)?;
+    if let Err(f) = executor::fills_fault(table, p, rec, m, from, n) {
+        return Err(Refused::new(f.kind, f.at));
+    }
     insert_rows(s, p, places, j, t, rec, m, from, n)
 }
 
@@ -225,7 +227,8 @@ fn scan(s: &[u8], p: Profile, places: usize, rec: &[u8], at: usize) -> Answer
     let Ok((name, _)) = read::name_at(rec, at) else {
         unreachable!();
     };
-    Ok(walk::scan(s, p, places, name).len())
+    let rows = walk::scan(s, p, places, name);
+    Ok(rows.to - rows.from)
 }
 
 // The operations that write, and those of a batch.

@@ -2,6 +2,7 @@
 use Prim.Native.Nat.{ℕ, ◌+◌, ◌-◌}
 use mathlib.Core.Path.{◌≡◌, sym, ap, ◌∙◌, subst}
 use mathlib.Core.List.{List, ◌++◌, append_assoc}
+use native.Mathlib.Nat.{sub-zero}
 use native.Mathlib.Omega.{arith}
 use lib.ListN.{length, take, drop, length-append}
 use lib.Seq.{take_at, drop_at, drop-drop}
@@ -24,3 +25,11 @@ front-copied p before now q n k f e =
       count = omega (arith, length-append p q, f.count);
       bytes = rw (z, t, d, drop-drop k n before) (sym (append_assoc p q (drop (n + k) before)));
     }
+
+-- a front of a whole part, read back: `line[0..n]`
+pub front-back : (q before last z : List ℕ) (n : ℕ) → Front q before last n → take (n - 0) (last ++ z) ≡ q
+front-back q before last z n f =
+    ap (λ (j : ℕ). take j (last ++ z)) (sub-zero n)
+    ∙ ap (λ (l : List ℕ). take n (l ++ z)) f.bytes
+    ∙ ap (take n) (append_assoc q (drop n before) z)
+    ∙ take_at q (drop n before ++ z) n (sym f.count)

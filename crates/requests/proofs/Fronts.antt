@@ -1,7 +1,7 @@
 -- A front of a buffer, and what is written behind it. Assumes nothing.
 use Prim.Native.Nat.{ℕ, suc, ◌+◌, ◌-◌, ◌≤◌, ◌<◌}
 use mathlib.Core.Path.{◌≡◌, refl, sym, ap, ◌∙◌, subst}
-use mathlib.Core.Bool.{false, cond}
+use mathlib.Core.Bool.{true, false, cond}
 use mathlib.Core.List.{List, [], ◌∷◌, ◌++◌, append-nil, append_assoc}
 use native.Mathlib.Omega.{arith}
 use native.Mathlib.Numerals.{add-one}
@@ -17,7 +17,7 @@ use Rattle.rules.specs.declared.answer.Refused.{Refused}
 use Rattle.rules.specs.declared.answer.Refusal.{Refusal}
 use Rattle.rules.specs.declared.answer.Refusal.TheVariants as V
 use Rattle.rules.specs.Refusal.{number_of, refusal_of}
-use Rattle.rules.specs.Request.{Reply, ok, told}
+use Rattle.rules.specs.Request.{Reply, told}
 use Rattle.rules.specs.Step.{is_accepted}
 use Rattle.requests.specs.Lines.{space, newline, answer_line}
 
@@ -161,11 +161,19 @@ module _ (w v out : List ℕ) (e : w ≡ v) (ev : 2 ≡ length v) (l : 2 ≤ len
   pub behind_word : (q after : List ℕ) (r : ℕ) → Front (take 2 (w ++ drop 2 out) ++ q) (w ++ drop 2 out) after r → Front (v ++ q) out after r
   behind_word q after r f = front-on v out (w ++ drop 2 out) 2 (rw e (front_word v out 2 ev)) l q after r f
 
-pub line_ok : (count : ℕ) (w out after : List ℕ) (r : ℕ) → w ≡ 111 ∷ 107 ∷ [] → 2 ≤ length out
-    → Front (take 2 (w ++ drop 2 out) ++ (space ∷ (decimal count ++ (newline ∷ [])))) (w ++ drop 2 out) after r
-    → Front (answer_line (ok count)) out after r
+pub line-accepted : (a : Reply) (w out after : List ℕ) (r : ℕ) → is_accepted a ≡ true → w ≡ 111 ∷ 107 ∷ [] → 2 ≤ length out
+    → Front (take 2 (w ++ drop 2 out) ++ (space ∷ (decimal a.count ++ (newline ∷ [])))) (w ++ drop 2 out) after r
+    → Front (answer_line a) out after r
 unfolding answer_line
-line_ok count w out after r e l g = behind_word w (111 ∷ 107 ∷ []) out e refl l _ after r g
+line-accepted a w out after r e ew l g = rw e (behind_word w (111 ∷ 107 ∷ []) out ew refl l _ after r g)
+
+-- the same, of a word written byte by byte
+pub line_ok : (a : Reply) (out after : List ℕ) (r : ℕ) → is_accepted a ≡ true → 2 ≤ length out
+    → Front (take 2 (set (set out 0 111) 1 107) ++ (space ∷ (decimal a.count ++ (newline ∷ [])))) (set (set out 0 111) 1 107) after r
+    → Front (answer_line a) out after r
+line_ok a [] after r e l g = absurd (omega arith)
+line_ok a (x ∷ []) after r e l g = absurd (omega arith)
+line_ok a (x ∷ y ∷ out) after r e l g = line-accepted a (111 ∷ 107 ∷ []) (x ∷ y ∷ out) after r e refl l g
 
 pub line-no : (a : Reply) (w out b c after : List ℕ) (code at gone n m r : ℕ) → is_accepted a ≡ false → code ≡ number_of a.kind → at ≡ a.at → gone ≡ cond a.gone 1 0
     → w ≡ 110 ∷ 111 ∷ [] → 2 ≤ length out → n ≤ length out → m ≤ length out

@@ -80,7 +80,7 @@ pub fn number(k: Refusal) -> u64
 impl Refused {
     // `no CODE AT 0`, carrying nothing.
     pub fn new(kind: Refusal, at: usize) -> Refused
-        ensures { told result ≡ no (refusal_of kind) at }
+        ensures { (told result ≡ no (refusal_of kind) at) × (result.carried ≡ None) }
     {
         Refused::made(kind, at, None)
     }
@@ -94,7 +94,7 @@ impl Refused {
 
     // A refusal without GONE.
     fn made(kind: Refusal, at: usize, carried: Option<Carried>) -> Refused
-        ensures { told result ≡ with_gone false (no_with (refusal_of kind) at carried) }
+        ensures { (told result ≡ with_gone false (no_with (refusal_of kind) at carried)) × (result.carried ≡ carried) }
     {
         Refused {
             kind,

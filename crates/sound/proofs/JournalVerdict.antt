@@ -40,11 +40,15 @@ use Rattle.sound.proofs.PlacePieces.{places-many, journal-piece}
 -- ---- the length
 
 module _ (p : Profile) (j : List ℕ) where
-  pub no_header : length j < 3 → journal_places p j ≡ 0
+  pub header-short : length j < 3 → journal_places p j ≡ 0
   unfolding journal_places
-  no_header h =
+  header-short h =
       let z : length j - 3 ≡ 0 = omega arith in
       rw (z, zero-div)
+
+  pub no_header : length j < 3 → false ≡ right_journal p j
+  unfolding right_journal all
+  no_header h = rw (header-short h)
 
   pub record RightJournal : Type 0 where
     pub least : 1 ≤ journal_places p j
@@ -240,4 +244,4 @@ module _ (p : Profile) (s j : List ℕ) where
         bytes = sym x.laid;
       })
 
-pub ruleset lengths = (no_header, journal_long)
+pub ruleset lengths = (header-short, journal_long)

@@ -1,12 +1,12 @@
 -- A row written to a store, and noted in its journal: what each write comes to, case by case, and both again after it. Assumes nothing.
 use mathlib.Core.Path.{◌≡◌, refl, sym, ap, ◌∙◌, subst}
-use mathlib.Core.Bool.{Bool, true, false, not, cond, true≢false}
+use mathlib.Core.Bool.{Bool, true, false, not, true≢false}
 use mathlib.Core.Option.{Option, none, some, some-injective}
-use Prim.Native.Nat.{ℕ, suc, ◌<◌}
+use Prim.Native.Nat.{ℕ, ◌<◌}
 use mathlib.Core.List.{List, [], ◌∷◌, ◌++◌, map}
 use lib.Dec.{eqb}
 use lib.ListN.{length, length-map}
-use Rattle.values.specs.Basic.{is_nil, nth, or_default, maybe, ◌or_else◌}
+use Rattle.values.specs.Basic.{is_nil, nth, or_default, maybe}
 use Rattle.values.specs.Value.{Value, normalised, same}
 use Rattle.areas.specs.Sorted.{All}
 use Rattle.values.specs.Meaning.{held, ProperCell}
@@ -28,7 +28,7 @@ use Rattle.rules.specs.Schema.{first, at}
 use Rattle.rules.specs.Request.{Pair, Reply, said, told, ok, no, Carried, no_carrying, with_gone}
 use Rattle.std.specs.declared.result.Result.TheVariants.{Ok, Err}
 use Rattle.std.specs.Result.{MatchResult, IsErrAnd}
-use Rattle.rules.specs.Rows.{cell_fault, cells_fault, row_fault, row_referenced}
+use Rattle.rules.specs.Rows.{row_fault, row_referenced}
 use Rattle.rules.specs.Sound.{every, canonical}
 use Rattle.rules.specs.Step.{Change, added, replaced, with_row, apply, apply_all, note, note_all, changed, Outcome, did, refused, is_accepted, at_place, numbered, journal_fault, put_fault, insert_row, same_key, reinsert, other_key, pair, removals}
 use Rattle.rules.proofs.Asked.{Ready}
@@ -48,7 +48,8 @@ use Rattle.journal.specs.Page.{noting, Noted}
 use Rattle.journal.specs.Books.{Booked, BytesOf, Settled}
 use Rattle.journal.proofs.Booking.{laid-books, right_of, next-are, next-booked, journaled}
 use Rattle.store.specs.Removed.{removals_in, Removes, RoomFor}
-use Rattle.checks.proofs.Faulting.{or-first, or-second}
+use Rattle.checks.proofs.Faulting.{or-first, or-second, Told, told as first-told, or-told}
+use Rattle.checks.proofs.Fitting.{cells_told}
 use Rattle.laid.proofs.Finding.{place_found}
 use Rattle.laid.proofs.Keyed.{row_at}
 use Rattle.store.proofs.Settling.{refusal-refuses, told-refuses, left_alone}
@@ -58,39 +59,19 @@ use Rattle.laid.proofs.Stores.{store-valid, laid-store}
 
 -- ---- a fault is none of the accepted
 
-abbrev Faults : Option Refusal → Type 0
-Faults o = (k : Refusal) → some k ≡ o → eqb (number_of k) 0 ≡ false
-
-faults-first : (xs : List (Refusal × Bool)) → All (λ x. eqb (number_of x.0) 0 ≡ false) xs → Faults (first xs)
-unfolding first
-faults-first [] h = λ k e. absurd (cc)
-faults-first (x ∷ xs) h = by-test x.1 (faults-first xs h.1)
-  where
-    by-test : (b : Bool) → Faults (first xs) → Faults (cond b (some x.0) (first xs))
-    by-test true f = λ k e. ap (λ (y : Refusal). eqb (number_of y) 0) (some-injective k x.0 e) ∙ h.0
-    by-test false f = f
-
-faults-or : (a b : Option Refusal) → Faults a → Faults b → Faults (a or_else b)
-unfolding ◌or_else◌
-faults-or none b f g = g
-faults-or (some x) b f g = f
-
-faults-cells : (rs : List S.Row) (t : Table) (u : Bool) (key : Value) (i : ℕ) (cs : List S.Column) (vs : List Value) → Faults (cells_fault rs t u key i cs vs)
-unfolding cells_fault cell_fault
-faults-cells rs t u key i [] vs = λ k e. absurd (cc)
-faults-cells rs t u key i (c ∷ cs) [] = λ k e. absurd (cc)
-faults-cells rs t u key i (c ∷ cs) (v ∷ vs) = faults-or _ _ (faults-first _ (refl, (refl, (refl, (refl, tt))))) (faults-cells rs t u key (suc i) cs vs)
-
-put-faults : (p : Profile) (R : ℕ) (t : Table) (b : Books) (u : Bool) (v : List Value) → Faults (put_fault p R t b u v)
-unfolding row_fault journal_fault
-put-faults p R t b u v =
-    faults-or _ _
-    (faults-or _ _ (faults-first _ (refl, (refl, tt))) (faults-or _ _ (faults-cells b.store.rows t u (key_of t v) 0 t.columns v) (faults-first _ (refl, (refl, tt)))))
-    (faults-first _ (refl, tt))
+pub row_told : (p : Profile) (R : ℕ) (st : State) (t : Table) (u : Bool) (v : List Value) → Told (row_fault p R st t u v)
+unfolding row_fault
+row_told p R st t u v =
+    or-told _ _ (first-told _ (refl, (refl, tt)))
+    (or-told _ _ (cells_told st.rows t u (key_of t v) 0 t.columns v) (first-told _ (refl, (refl, tt))))
 
 -- ---- a row's faults, and 43 behind them
 
 module _ (p : Profile) (R : ℕ) (t : Table) (b : Books) (u : Bool) (v : List Value) where
+  pub put-told : Told (put_fault p R t b u v)
+  unfolding journal_fault
+  put-told = or-told _ _ (row_told p R b.store t u v) (first-told _ (refl, tt))
+
   pub put-faulty : (k : Refusal) → some k ≡ row_fault p R b.store t u v → some k ≡ put_fault p R t b u v
   put-faulty k e = or-first k _ _ e
 
@@ -226,18 +207,22 @@ module _ {p : Profile} {R : ℕ} {s j : List ℕ} (b : Booked p R s j) {t : ℕ}
       let q = fault-at m (put_fault p R T bk false v) (refusal_of k) i e in
       refused-at b m (insert_row p R T bk v) (no (refusal_of k) 0) (insert-faulty p R T bk v (refusal_of k) q.0) (refusal-refuses k) a (rw q.1 at h)
 
-  module _ (h : none ≡ put_fault p R T bk false v) where
-    free-new : row_fault p R st T false v ≡ none
-    free-new = free-row p R T bk false v h
-
+  module _ (free : row_fault p R st T false v ≡ none) where
     pub row-addable : Addable p R s t v
     unfolding apply
     row-addable =
         record {
           known = f.known;
-          new = (row-passes p R st T false v free-new).new;
-          laid = laid_of p R (with_rows st (with_row (row_of T v) st.rows)) (valid-laid (with-row false free-new));
+          new = (row-passes p R st T false v free).new;
+          laid = laid_of p R (with_rows st (with_row (row_of T v) st.rows)) (valid-laid (with-row false free));
         }
+
+  module _ (h : none ≡ put_fault p R T bk false v) where
+    free-new : row_fault p R st T false v ≡ none
+    free-new = free-row p R T bk false v h
+
+    pub put-addable : Addable p R s t v
+    put-addable = row-addable free-new
 
     pub row-inserted : {s₁ j₁ : List ℕ} → s₁ ≡ image p R (apply (added (row_of T v)) st)
         → Noted p (absent T.name (key_of T v)) j j₁ → (m : ℕ) (a : Answer) → said a ≡ ok 1
@@ -386,7 +371,7 @@ module _ {p : Profile} {R : ℕ} {s j : List ℕ} (b : Booked p R s j) {t : ℕ}
                 bytes = subst (λ (x : Books). BytesOf p R x s₂ j₂) (sym (changed-append cs (added (row_of T v) ∷ []) bk)) (bytes-are _ i);
               })
           accepted-by (some k) e g =
-              absurd (true≢false (sym g ∙ accepted-as _ (insert-faulty p R T (changed cs bk) v k (sym e)) ∙ put-faults p R T (changed cs bk) false v k (sym e)))
+              absurd (true≢false (sym g ∙ accepted-as _ (insert-faulty p R T (changed cs bk) v k (sym e)) ∙ put-told p R T (changed cs bk) false v k (sym e)))
 
           -- it was refused: GONE where a row went
           refused-by : (o : Option Refusal) → fault ≡ o → is_accepted (said a) ≡ false → (x : Answer) → said x ≡ with_gone (not (is_nil cs)) (said a)

@@ -1,6 +1,6 @@
 // Writes of rows (local.rs: `insert`, `update`, `delete`): one full row, one pair, a request's keys. While a batch is open, what stood at a key is noted
 // before the row is changed.
-ghost use Rattle.std.specs.Prelude.{◌≡◌, not, [], ◌∷◌, ◌<◌, length};
+ghost use Rattle.std.specs.Prelude.{◌≡◌, true, not, [], ◌∷◌, ◌<◌, length};
 ghost use Rattle.values.specs.Meaning.{text_bytes, Packed, meaning, Proper};
 ghost use Rattle.values.specs.Basic.{is_nil};
 ghost use Rattle.rules.specs.Layout.{parse};
@@ -26,7 +26,7 @@ use values::cell;
 use values::value::{Cell, Text, Value};
 use walks::referrer;
 
-// Why a row, the request's number n, is not put into the table at place t: its own checks, 43.
+// Why a row, the request's number n, is not put over the one with its key in the table at place t: its own checks, 43.
 fn put_fault(
     s: &[u8],
     p: Profile,
@@ -35,12 +35,11 @@ fn put_fault(
     t: usize,
     n: usize,
     row: &[Cell],
-    update: bool,
 ) -> Result<(), Fault>
     requires { Booked p places s.now j.now × FullRow p places s.now t row.now }
-    ensures { fault_of result ≡ at n (put_fault p places (table_in p places s.now t) (books_of p places s.now j.now) update (cells_of row.now)) }
+    ensures { fault_of result ≡ at n (put_fault p places (table_in p places s.now t) (books_of p places s.now j.now) true (cells_of row.now)) }
 {
-    let own = schema::validate_row(s, p, places, t, row, update);
+    let own = schema::validate_row(s, p, places, t, row, true);
     own.map_err(|kind| Fault { kind, at: n })?;
     if !page::has_places(j, p, 1) {
         return Err(Fault {
@@ -64,7 +63,14 @@ pub fn insert(
     requires { Booked p places s.old j.old × FullRow p places s.old t row.now }
     ensures { Settled p places (numbered n (insert_row p places (table_in p places s.old t) (books_of p places s.old j.old) (cells_of row.now))) s.old j.old s.new j.new result }
 {
-    put_fault(s, p, places, j, t, n, row, false)?;
+    // answered here and not by `put_fault`, so that an edit can change this answer alone
+    if let Err(kind) = schema::validate_row(s, p, places, t, row, false) {
+        let refused = Refused::new(kind, n);
+        return Err(refused);
+    }
+    if !page::has_places(j, p, 1) {
+        return Err(Refused::new(Refusal::JournalFull, n));
+    }
     noting::note_new(s, p, places, j, t, row);
     change::add_row(s, p, places, t, row);
     Ok(1)
@@ -143,7 +149,7 @@ fn same_key(
     requires { Booked p places s.old j.old × FullRow p places s.old t row.now }
     ensures { Settled p places (numbered n (same_key p places (table_in p places s.old t) (books_of p places s.old j.old) (cells_of row.now))) s.old j.old s.new j.new result }
 {
-    put_fault(s, p, places, j, t, n, row, true)?;
+    put_fault(s, p, places, j, t, n, row)?;
     let rec = layout::table_record(s, p, places, t);
     let name = cell::read_name(rec);
     let column = catalog::key_column(rec);

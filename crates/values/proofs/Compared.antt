@@ -1,36 +1,58 @@
 -- How two values of the code compare: by their kinds, or within a kind by what they hold. Assumes nothing.
 use mathlib.Core.Path.{◌≡◌, refl, sym, ap, ◌∙◌, subst}
-use mathlib.Core.Bool.{Bool, cond}
+use mathlib.Core.Bool.{Bool, cond, not}
+use mathlib.Core.List.{List}
 use Prim.Native.Nat.Ordering.{eq}
-use Prim.Native.Nat.{ℕ, compare}
+use Prim.Native.Nat.{ℕ, ◌-◌, ◌^◌, ◌≤◌, ◌<◌, compare, Ordering}
 use native.Mathlib.Omega.{arith}
-use lib.IntN.{ℤ}
+use borrow.Author.Tests.{lt-ltb, le-ltb}
+use lib.Dec.{T}
+use lib.IntN.{ℤ, pos, negsuc, ◌-ℤ◌}
 use lib.Ieee as Ieee
 use lib.Ieee.{binary64, to_bits}
 use mir.Syntax.{w64}
-use mir.Val.{SFits, of_z, to_z}
-use mir.ValLaws.{to_z-of_z}
-use Rattle.values.specs.Basic.{cmpℤ, cmp_bytes}
-use Rattle.values.specs.Value.{kind_of, normal_bits, signed_bits, cmp_value}
+use mir.Val.{SFits, of_z, to_z, has_key}
+use mir.ValLaws.{to_z-of_z, to_z_pos}
+use types.Run.{OneOf, miss}
+use denote.Enum.Declared.{tag_of}
+use Rattle.values.specs.Basic.{and_then, cmpℤ, cmp_bytes}
+use Rattle.values.specs.Value.{Value, kind_of, number_of, bytes_of, normal_bits, signed_bits, cmp_value}
 use Rattle.std.specs.Ordering.{nat_cmp, bool_cmp, int_cmp}
 use Rattle.std.specs.declared.cmp.Ordering.{Ordering as Compared}
 use Rattle.values.specs.Meaning.{text_bytes, meaning, Proper, ordering}
 use Rattle.values.specs.declared.value.Text.{Text}
 use Rattle.values.specs.declared.value.Value as D
 use Rattle.values.specs.declared.value.Value.TheVariants.{Null, Boolean, Integer, Float, Text as Words}
+use Rattle.values.specs.contracts.value.Value.{the_type}
 use Rattle.values.proofs.Orders.{decides, and-eq, of_eq, Tri, less, level, more, tri, cmpℕ-ordering, cmp-bool-ordering, cmpℤ-ordering}
+use Rattle.values.proofs.Signed.{flip_is}
 
 -- ---- kinds
 
-pub by_kind : (v w : D.Value) (o : Compared) (k l : ℕ) → o ≡ nat_cmp k l → k ≡ kind_of (meaning v) → l ≡ kind_of (meaning w)
-    → (kind_of (meaning v) ≡ kind_of (meaning w) → eq ≡ cmp_value (meaning v) (meaning w)) → ordering o ≡ cmp_value (meaning v) (meaning w)
+pub by_kind : (v w : Value) (o : Ordering) → (kind_of v ≡ kind_of w → ⊥) → o ≡ compare (kind_of v) (kind_of w) → o ≡ cmp_value v w
 unfolding cmp_value
-by_kind v w o k l h p q f = ap ordering (rw (p, q) at h) ∙ cmpℕ-ordering (kind_of (meaning v)) (kind_of (meaning w)) ∙ go (tri (kind_of (meaning v)) (kind_of (meaning w)))
+by_kind v w o n h = h ∙ sym (decides (kind_of v) (kind_of w) (and_then (cmpℤ (number_of v) (number_of w)) (cmp_bytes (bytes_of v) (bytes_of w))) n)
+
+pub kinds_told : (v w : D.Value) (o : Compared) (k l : ℕ) → o ≡ nat_cmp k l → k ≡ kind_of (meaning v) → l ≡ kind_of (meaning w)
+    → (kind_of (meaning v) ≡ kind_of (meaning w) → eq ≡ cmp_value (meaning v) (meaning w)) → ordering o ≡ cmp_value (meaning v) (meaning w)
+kinds_told v w o k l h p q f = ap ordering (rw (p, q) at h) ∙ cmpℕ-ordering (kind_of (meaning v)) (kind_of (meaning w)) ∙ go (tri (kind_of (meaning v)) (kind_of (meaning w)))
   where
     go : Tri (kind_of (meaning v)) (kind_of (meaning w)) → compare (kind_of (meaning v)) (kind_of (meaning w)) ≡ cmp_value (meaning v) (meaning w)
-    go (less h) = sym (decides _ _ _ (λ e. omega arith))
+    go (less h) = by_kind (meaning v) (meaning w) _ (λ e. omega arith) refl
     go (level h) = of_eq _ _ h ∙ f h
-    go (more h) = sym (decides _ _ _ (λ e. omega arith))
+    go (more h) = by_kind (meaning v) (meaning w) _ (λ e. omega arith) refl
+
+kind-is : (v : D.Value) → tag_of the_type v ≡ kind_of (meaning v)
+unfolding meaning
+kind-is Null = refl
+kind-is (Boolean b) = refl
+kind-is (Integer i) = refl
+kind-is (Float x) = refl
+kind-is (Words t) = refl
+
+-- an arm of a `match` on the kinds ks is not taken by a value of another kind
+pub no_arm : (ks : List ℕ) (k : ℕ) (v : D.Value) → T (not (has_key ks k)) → k ≡ kind_of (meaning v) → OneOf ks (tag_of the_type v) → ⊥
+no_arm ks k v n e o = miss ks k n (subst (OneOf ks) (kind-is v ∙ sym e) o)
 
 pub nulls : (v w : D.Value) → v ≡ Null → kind_of (meaning v) ≡ kind_of (meaning w) → eq ≡ cmp_value (meaning v) (meaning w)
 unfolding meaning cmp_value cmp_bytes
@@ -96,3 +118,18 @@ module _ (v w : D.Value) (o : Compared) where
   pub texts : (x y : Text) → v ≡ Words x → w ≡ Words y → ordering o ≡ cmp_bytes (text_bytes x) (text_bytes y) → ordering o ≡ cmp_value (meaning v) (meaning w)
   unfolding meaning cmp_value
   texts x y p q h = rw (p, q) h
+
+-- ---- the sign bit as a sign
+
+pub low_signed : (b : ℕ) → b < 2 ^ 63 → to_z w64 b ≡ signed_bits b
+low_signed b h = to_z_pos w64 b h ∙ rw (lt-ltb b (2 ^ 63) h)
+
+pub record High (b : ℕ) : Type 0 where
+  pub fit : SFits w64 (negsuc 0 -ℤ to_z w64 (b - 9223372036854775808))
+  pub is : to_z w64 (of_z w64 (negsuc 0 -ℤ to_z w64 (b - 9223372036854775808))) ≡ signed_bits b
+
+pub high-signed : (b : ℕ) → 2 ^ 63 ≤ b → b < 2 ^ 64 → High b
+high-signed b h l =
+    let s : SFits w64 (negsuc (b - 2 ^ 63)) = record { sfits = omega arith } in
+    let e : negsuc 0 -ℤ to_z w64 (b - 2 ^ 63) ≡ negsuc (b - 2 ^ 63) = rw (to_z_pos w64 (b - 2 ^ 63) (omega arith)) (flip_is (pos (b - 2 ^ 63))) in
+    record { fit = rw e s; is = rw (e, to_z-of_z w64 (negsuc (b - 2 ^ 63)) s, le-ltb b (2 ^ 63) h) }

@@ -1,12 +1,13 @@
 -- Laws of `normal_bits`; the bits of a float, which is a NaN or not. Assumes nothing.
 use mathlib.Core.Path.{◌≡◌, refl, sym, ap, ◌∙◌, subst}
-use mathlib.Core.Bool.{Bool, true, false, not, cond}
+use mathlib.Core.Bool.{Bool, true, false, not, cond, true≢false}
 use Prim.Native.Nat.{ℕ, ◌%◌, ◌^◌, ◌≤◌, ◌<◌}
 use native.Mathlib.Omega.{arith}
 use borrow.Author.Tests.{lt-ltb, le-ltb, eq-eqb, ne_eqb, eqb-false, ltb-true, ltb-false}
 use lib.Dec.{T, ltb, eqb}
-use lib.Ieee.{Float, nan, inf, fin, is_nan, nan_bits, binary64, of_bits, to_bits, fits}
+use lib.Ieee.{Float, nan, inf, fin, ne, is_nan, nan_bits, binary64, of_bits, to_bits, div, fits}
 use lib.Ieee.Bits.{is_false, nan_bits_is, nan_bits_above, of_bits-to_bits, to_bits-of_bits}
+use lib.Ieee.Compare.{differs_from_itself, nan_differs}
 use Rattle.values.specs.Value.{normal_bits, the_nan}
 
 -- the bits of infinity: those of a NaN are above them
@@ -54,6 +55,10 @@ pub nan-bits : to_bits binary64 nan ≡ the_nan
 unfolding to_bits
 nan-bits = refl
 
+pub nan-fits : T (fits binary64 nan)
+unfolding fits
+nan-fits = tt
+
 pub nan-word : to_bits binary64 (of_bits binary64 the_nan) ≡ the_nan
 unfolding to_bits of_bits
 nan-word = refl
@@ -62,11 +67,25 @@ pub zero_bits : to_bits binary64 (of_bits binary64 0) ≡ 0
 unfolding to_bits of_bits
 zero_bits = refl
 
-pub is-nan : (x : Float) → is_nan x ≡ true → x ≡ nan
+pub zero_by_zero : div binary64 (of_bits binary64 0) (of_bits binary64 0) ≡ nan
+unfolding div of_bits
+zero_by_zero = refl
+
+-- NaN, as `x != x` and as `is_nan` tell it
+pub is-nan : (x : Float) → ne x x ≡ true → x ≡ nan
+is-nan x t = differs_from_itself x (subst T (sym t) tt)
+
+pub no_nan : (x : Float) → ne x x ≡ false → T (not (is_nan x))
 unfolding is_nan
-is-nan nan t = refl
-is-nan (inf s) t = cc
-is-nan (fin s m e) t = cc
+no_nan nan t = absurd (true≢false (sym nan_differs ∙ t))
+no_nan (inf s) t = tt
+no_nan (fin s m e) t = tt
+
+pub only_nan : (x : Float) → is_nan x ≡ true → x ≡ nan
+unfolding is_nan
+only_nan nan t = refl
+only_nan (inf s) t = cc
+only_nan (fin s m e) t = cc
 
 -- a word that is no NaN's, as the code tests it
 pub below_nan : (w : ℕ) → w % 2 ^ 63 ≤ infinite → nan_bits binary64 w ≡ false
@@ -81,12 +100,21 @@ pub back-bits : (w : ℕ) → w < 2 ^ 64 → w % 2 ^ 63 ≤ infinite → to_bits
 back-bits w l h = to_bits-of_bits binary64 w l (rw (sym (nan_bits_is binary64 w) ∙ below_nan w h) tt)
 
 -- what `is_nan` says of the bits
-pub nan-told : (x : Float) → fits binary64 x ≡ true → is_nan x ≡ eqb (normal_bits (to_bits binary64 x)) the_nan
-nan-told x f = on (is_nan x) refl
+pub is_nan-told : (x : Float) → fits binary64 x ≡ true → is_nan x ≡ eqb (normal_bits (to_bits binary64 x)) the_nan
+is_nan-told x f = on (is_nan x) refl
   where
     no : (w : ℕ) → w % 2 ^ 63 ≤ infinite → normal_bits w ≡ the_nan → ⊥
     no w h = normal-cases (λ n. n ≡ the_nan → ⊥) w (λ e. omega arith) (λ l e. omega arith) (λ n l e. omega arith)
 
     on : (b : Bool) → is_nan x ≡ b → is_nan x ≡ eqb (normal_bits (to_bits binary64 x)) the_nan
-    on true t = t ∙ sym (eq-eqb (normal_bits (to_bits binary64 x)) the_nan (ap normal_bits (ap (to_bits binary64) (is-nan x t) ∙ nan-bits) ∙ normal-nan the_nan (omega arith)))
+    on true t = t ∙ sym (eq-eqb (normal_bits (to_bits binary64 x)) the_nan (ap normal_bits (ap (to_bits binary64) (only_nan x t) ∙ nan-bits) ∙ normal-nan the_nan (omega arith)))
     on false t = t ∙ sym (ne_eqb (normal_bits (to_bits binary64 x)) the_nan (no (to_bits binary64 x) (bits-below-nan x f (rw t tt))))
+
+-- what `x != x` says of the bits
+pub nan-told : (x : Float) → fits binary64 x ≡ true → ne x x ≡ eqb (normal_bits (to_bits binary64 x)) the_nan
+unfolding is_nan
+nan-told x f = on (ne x x) refl ∙ is_nan-told x f
+  where
+    on : (b : Bool) → ne x x ≡ b → ne x x ≡ is_nan x
+    on true t = t ∙ sym (ap is_nan (is-nan x t))
+    on false t = t ∙ sym (is_false (is_nan x) (no_nan x t))

@@ -3,6 +3,7 @@ pub mod Scans
 pub mod Parts
 pub mod Shifts
 pub mod Orders
+pub mod Signed
 pub mod Floats
 pub mod Packing
 pub mod Cells

@@ -54,7 +54,7 @@ module _ {A : Type 0} {cmp : A → A → Ordering} (O : Ord cmp) where
       go eq h = refl
       go gt h = cc
 
-  -- what a test of before tells
+  -- what two tests of before tell
   pub lt_at : (a b : A) → is_lt (cmp a b) ≡ true → cmp a b ≡ lt
   lt_at a b h = less (cmp a b) h
     where
@@ -62,6 +62,17 @@ module _ {A : Type 0} {cmp : A → A → Ordering} (O : Ord cmp) where
       less lt h = refl
       less eq h = cc
       less gt h = cc
+
+  pub gt-at : (a b : A) → is_lt (cmp b a) ≡ true → cmp a b ≡ gt
+  gt-at a b h = O.flip b a ∙ ap opp (lt_at b a h)
+
+  pub eq-at : (a b : A) → is_lt (cmp a b) ≡ false → is_lt (cmp b a) ≡ false → cmp a b ≡ eq
+  eq-at a b h k = neither (cmp a b) h (rw (O.flip a b) at k)
+    where
+      neither : (o : Ordering) → is_lt o ≡ false → is_lt (opp o) ≡ false → o ≡ eq
+      neither lt h k = cc
+      neither eq h k = refl
+      neither gt h k = cc
 
 -- by a part of each side
 pub pull : {A B : Type 0} {cmp : B → B → Ordering} (f : A → B) → Ord cmp → Ord (λ (a b : A). cmp (f a) (f b))

@@ -39,6 +39,10 @@ pub length-pad : (k : ℕ) (l : List ℕ) → length l ≤ k → length (pad k l
 unfolding pad
 length-pad k l h = simp (length-append, length-replicate) (omega arith)
 
+pub pad-least : (k : ℕ) (l : List ℕ) → k ≤ length (pad k l)
+unfolding pad
+pad-least k l = simp (length-append, length-replicate) (omega arith)
+
 pub take-pad : (k : ℕ) (l : List ℕ) → take (length l) (pad k l) ≡ l
 unfolding pad
 take-pad k l = take_at l (replicate (k - length l) 0) (length l) refl

@@ -1,13 +1,17 @@
 -- Laws of `specs/Area.antt`. Assumes nothing.
-use mathlib.Core.Path.{◌≡◌, sym, ap, ◌∙◌}
-use Prim.Native.Nat.{ℕ, ◌+◌, ◌-◌, ◌≤◌}
+use mathlib.Core.Path.{◌≡◌, refl, sym, ap, ◌∙◌}
+use Prim.Native.Nat.{ℕ, zero, suc, ◌+◌, ◌-◌, ◌≤◌}
 use native.Mathlib.Omega.{arith}
-use mathlib.Core.List.{List, ◌++◌, append_assoc}
+use mathlib.Core.List.{List, ◌∷◌, ◌++◌, append_assoc}
 use lib.ListN.{length, take, drop, get_or, replicate, length-append, length-take, length-drop}
 use lib.Seq.{length-take-le, get_or-append-add, take_at, drop-drop, drop-append-add}
 use borrow.Rule.Slice.PartMut.{put_mid, mid_of}
 use Rattle.std.specs.List.{copy_within}
 use Rattle.values.specs.Area.{raised, lowered, cleared, closed}
+
+pub length-raised : (at used width : ℕ) (xs : List ℕ) → at ≤ used → used + width ≤ length xs → length (raised at used width xs) ≡ length xs
+unfolding raised
+length-raised at used width xs h k = simp (length-append, length-take, length-drop) (omega arith)
 
 -- the bytes moved within the area
 pub raised-copied : (at used width : ℕ) (xs : List ℕ) → at ≤ used → copy_within xs at used (at + width) ≡ raised at used width xs
@@ -33,6 +37,10 @@ lowered-copied at used width xs h =
     let e : used - (at + width) ≡ used - width - at = omega arith in
     let f : at + (used - width - at) ≡ used - width = omega arith in
     rw (e, f, append_assoc)
+
+pub zeros-snoc : (n : ℕ) (r : List ℕ) → replicate n 0 ++ 0 ∷ r ≡ replicate (suc n) 0 ++ r
+zeros-snoc zero r = refl
+zeros-snoc (suc n) r = ap (λ (l : List ℕ). 0 ∷ l) (zeros-snoc n r)
 
 pub cleared-mid : (from to : ℕ) (xs ys : List ℕ) → from ≤ to → to ≤ length xs → ys ≡ replicate (length (mid_of from (to - from) xs)) 0 → put_mid from (to - from) xs ys ≡ cleared from to xs
 unfolding cleared

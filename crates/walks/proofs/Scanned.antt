@@ -66,7 +66,7 @@ module _ (p : Profile) (R : ℕ) (s : List ℕ) (b : LaidStore p R s) (n : Name)
     pub span_small : i + k ≤ 65536
     span_small = omega (arith, run_inside, (held-state p R s b).few-rows, b.places)
 
-    pub span-is : Spans rows n i (i + k)
+    pub span-is : Spans rows n (record { from = i; to = i + k })
     span-is =
         let e : k ≡ i + k - i = omega arith in
         record {

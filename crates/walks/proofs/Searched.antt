@@ -25,6 +25,7 @@ use Rattle.rules.proofs.Tests.{and_left, name-is}
 use Rattle.laid.specs.Store.{LaidStore}
 use Rattle.laid.specs.Row.{table_in, row_in, column_in, no_column, RowOf}
 use Rattle.walks.specs.Referring.{shown, counts}
+use Rattle.walks.specs.declared.walk.Span.{Span}
 use Rattle.walks.specs.Spans.{Spans}
 use Rattle.walks.proofs.Shown.{none-shown}
 use Rattle.laid.proofs.Finding.{drop_nth, nth-get_or}
@@ -177,9 +178,9 @@ module _ (p : Profile) (R : ℕ) (s : List ℕ) (n : Name) (ks : List Value) whe
           rw add-one
           (rw (column-there, column-passed rows n ks (table_in p R s t) j (column_in p R s t j) (drop (suc j) (table_in p R s t).columns) (sym ea ∙ h)) at f)
 
-      pub column-rows : a ≡ true → (from to : ℕ) (m : Name) → Spans rows m from to → m ≡ (table_in p R s t).name → (own : Bool) → own ≡ same_name m n → FromRow t j own to from
+      pub column-rows : a ≡ true → (x : Span) (m : Name) → Spans rows m x → m ≡ (table_in p R s t).name → (own : Bool) → own ≡ same_name m n → FromRow t j own x.to x.from
       unfolding FromColumn between
-      column-rows h from to m w e own o =
+      column-rows h x m w e own o =
           record {
             inside = w.inside;
             of = λ r i. name-is r.table m (in-keep (of_table m) r rows (rw w.are i)).1 ∙ e;

@@ -121,7 +121,8 @@ pub fn row_references(
             let own = value::compare_texts(table, name).is_eq();
             for j in 0..catalog::column_count(rec) {
                 if is_searched(s, p, places, t, j, name, values) {
-                    for k in walk::scan(s, p, places, table) {
+                    let rows = walk::scan(s, p, places, table);
+                    for k in rows.from..rows.to {
                         if is_referring(s, p, places, t, k, j, own, values) {
                             let column = catalog::key_column(rec);
                             let key = row::cell_at(s, p, places, k, column).value;

@@ -17,20 +17,27 @@ use checks::keys::Values;
 use checks::row_fault;
 use laid::{entry, layout, run};
 use rules::profile::Profile;
-use std::ops::Range;
 use values::value::{Cell, Text, Value};
 use values::{cell, value};
 
+// The places of a table's rows: from the first on, before the last.
+#[derive(Clone, Copy)]
+pub struct Span {
+    pub from: usize,
+    pub to: usize,
+}
+
 // The places of a table's rows; an unknown table has none.
-pub fn scan(s: &[u8], p: Profile, places: usize, name: Text) -> Range<usize>
+pub fn scan(s: &[u8], p: Profile, places: usize, name: Text) -> Span
     requires { LaidStore p places s.now × Packed name }
-    ensures { Spans (parse p places s.now).rows (text_bytes name) result.start result.end }
+    ensures { Spans (parse p places s.now).rows (text_bytes name) result }
 {
     let count = layout::row_count(s);
     let width = layout::row_width(p);
     let rows = &s[layout::rows_at(p)..];
-    let start = search::named_before(rows, count, width, name);
-    start..start + run::run_from(rows, width, count, start, name)
+    let from = search::named_before(rows, count, width, name);
+    let to = from + run::run_from(rows, width, count, from, name);
+    Span { from, to }
 }
 
 // The place of the first row of a table at place `from` or behind it.

@@ -6,10 +6,10 @@ pub loop-j-init : goal.loop-j-init
 loop-j-init c = rw c.new-row.ensures (filled-start c.args.p c.args.rec.now)
 
 pub push-requires : goal.push-requires
-push-requires c = (omega arith, filled-room c.requires.0 c.loop-j.invariant c.requires.2 c.loop-j-test.true)
+push-requires c = filled-room c.requires.0 c.loop-j.invariant c.requires.2 c.loop-j-test.true
 
 pub loop-j-preserved : goal.loop-j-preserved
-loop-j-preserved c = rw c.push.ensures.items (filled_next c.requires.0 c.loop-j.invariant _ c.cell_in.ensures.0 c.cell_in.ensures.1)
+loop-j-preserved c = rw c.push.ensures (filled_next c.requires.0 c.loop-j.invariant _ c.cell_in.ensures.0 c.cell_in.ensures.1)
 
 pub returns : goal.returns
 returns c = filled-ends c.requires.0 c.loop-j.invariant c.requires.2 c.loop-j.auto.j-end c.loop-j-test.false

@@ -28,7 +28,7 @@ returns-in_err-cell-in-None c =
 
 pub push-requires : goal.push-requires
 push-requires c =
-    (omega arith, filling-room c.loop-j.invariant (omega (arith, columns-few c.args.p c.args.table.now c.requires.0)) (omega (arith, count-byte c.args.p c.args.table.now)))
+    filling-room c.loop-j.invariant (omega (arith, columns-few c.args.p c.args.table.now c.requires.0)) (omega (arith, count-byte c.args.p c.args.table.now))
 
 pub loop-j-preserved : goal.loop-j-preserved
 loop-j-preserved c =
@@ -36,10 +36,10 @@ loop-j-preserved c =
     let d = column-drop c.args.p c.args.table.now c.requires.0 c.loop-j.j h in
     elim c.match-given_value.branch [
       | in-Some w ↦
-          rw (c.push.ensures.items, w.cell-is)
+          rw (c.push.ensures, w.cell-is)
           (filling-on c.loop-j.invariant h (column_at c.args.p c.args.table.now c.loop-j.j) d _ (or-given _ _ _ c.given_value.ensures.0 _ w.in-Some.is) w.in-Some.ensures.1)
       | in-None+in_ok-cell-in-None w ↦
-          rw (c.push.ensures.items, w.cell-is)
+          rw (c.push.ensures, w.cell-is)
           (filling-on c.loop-j.invariant h (column_at c.args.p c.args.table.now c.loop-j.j) d _
           (or-default _ _ _ c.given_value.ensures.0 w.read_column.result.default (ap (λ (x : Column). x.default) w.read_column.ensures.is) w.in-None.is _ w.in_ok-cell-in-None.was)
           (rw w.in_ok-cell-in-None.was at w.read_column.ensures.proper.default))

@@ -6,10 +6,10 @@ pub loop-cell-init : goal.loop-cell-init
 loop-cell-init c = rw (c.new-row.ensures, c.into_iter-cell-iterator.ensures.into_iter_gives) (so-far-none _)
 
 pub push-requires : goal.push-requires
-push-requires c = (omega arith, so-far-room c.loop-cell.invariant _ _ c.in-Some.ensures.steps.0 (omega (arith, c.requires)))
+push-requires c = so-far-room c.loop-cell.invariant _ _ c.in-Some.ensures.steps.0 (omega (arith, c.requires))
 
 pub loop-cell-preserved : goal.loop-cell-preserved
-loop-cell-preserved c = let h = c.in-Some.ensures.steps in rw c.push.ensures.items (so-far-next c.loop-cell.invariant _ _ h.0 h.1)
+loop-cell-preserved c = let h = c.in-Some.ensures.steps in rw c.push.ensures (so-far-next c.loop-cell.invariant _ _ h.0 h.1)
 
 pub returns : goal.returns
 returns c = let r = so-far-all c.loop-cell.invariant c.in-None.ensures.steps.0 (omega (arith, c.requires)) in (r.0, r.1, r.2 ∙ c.requires.1)

@@ -2,7 +2,6 @@ use mathlib.Core.Path.{refl}
 use native.Mathlib.Omega.{arith}
 use Rattle.laid.proofs.Columns.{record-least}
 use Rattle.laid.proofs.Stores.{store-catalog, store-inside}
-use Rattle.operations.proofs.InTurn.{refused-by}
 use Rattle.operations.proofs.Naming.{named-below, named-place, named-bytes}
 use Rattle.operations.proofs.Operands.{insert-unnamed}
 use Rattle.operations.proofs.InsertRead.{map-got, map-whole, insert-said, acted-unknown, acted-bad, acted-fills, acted-faulty, acted-rows}
@@ -19,7 +18,7 @@ get_table-requires c = (store-catalog _ _ _ c.requires.0.store, c.in-Ok.ensures.
 
 pub returns-in_default-get_table : goal.returns-in_default-get_table
 returns-in_default-get_table c =
-    acted-unknown c.requires.0 _ ((insert-said c.requires.1 c.in-Ok.ensures c.in-Ok-map_end.ensures).asks _ refl _ refl) c.in_default-get_table.ensures c.new.ensures
+    acted-unknown c.requires.0 _ ((insert-said c.requires.1 c.in-Ok.ensures c.in-Ok-map_end.ensures).asks _ refl _ refl) c.in_default-get_table.ensures c.new.ensures.0
 
 pub read_map-m-requires : goal.read_map-m-requires
 read_map-m-requires c = map-got c.requires.1 c.in-Ok.ensures
@@ -36,7 +35,7 @@ column_count-requires c = record-least _ _ (named-bytes c.requires.0.store _ c.i
 pub returns-then-is_bad_map : goal.returns-then-is_bad_map
 returns-then-is_bad_map c =
     acted-bad c.requires.0 _ ((insert-said c.requires.1 c.in-Ok.ensures c.in-Ok-map_end.ensures).asks _ refl _ c.read_map-m.ensures.0) c.in-Some.ensures c.table_record-table.ensures
-    c.column_count.ensures c.if-is_bad_map.ensures c.new-then-is_bad_map.ensures
+    c.column_count.ensures c.if-is_bad_map.ensures c.new-then-is_bad_map.ensures.0
 
 pub overflow_add-from : goal.overflow_add-from
 overflow_add-from c = omega (arith, (insert-said c.requires.1 c.in-Ok.ensures c.in-Ok-map_end.ensures).inside)
@@ -49,10 +48,10 @@ fills_fault-requires c = (
   (insert-said c.requires.1 c.in-Ok.ensures c.in-Ok-map_end.ensures).rows _ c.byte_of-n.ensures,
 )
 
-pub returns-in_err-fills_fault : goal.returns-in_err-fills_fault
-returns-in_err-fills_fault c =
+pub returns-in-Err : goal.returns-in-Err
+returns-in-Err c =
     acted-faulty c.requires.0 _ ((insert-said c.requires.1 c.in-Ok.ensures c.in-Ok-map_end.ensures).asks _ c.byte_of-n.ensures _ c.read_map-m.ensures.0) c.in-Some.ensures c.table_record-table.ensures
-    c.column_count.ensures c.if-is_bad_map.ensures c.in_err-fills_fault.ensures (refused-by _ _ _ c.from_residual.ensures.1)
+    c.column_count.ensures c.if-is_bad_map.ensures c.in-Err.ensures c.new-in-Err.ensures.0
 
 pub insert_rows-requires : goal.insert_rows-requires
 insert_rows-requires c = record {
@@ -64,10 +63,10 @@ insert_rows-requires c = record {
   );
   at_value =
       acted-fills c.requires.0 _ ((insert-said c.requires.1 c.in-Ok.ensures c.in-Ok-map_end.ensures).asks _ c.byte_of-n.ensures _ c.read_map-m.ensures.0) c.in-Some.ensures c.table_record-table.ensures
-      c.in_ok-fills_fault.ensures;
+      c.in_default-fills_fault.ensures;
 }
 
 pub returns : goal.returns
 returns c =
     acted-rows c.requires.0 _ ((insert-said c.requires.1 c.in-Ok.ensures c.in-Ok-map_end.ensures).asks _ c.byte_of-n.ensures _ c.read_map-m.ensures.0) c.in-Some.ensures c.table_record-table.ensures
-    c.column_count.ensures c.if-is_bad_map.ensures c.in_ok-fills_fault.ensures c.insert_rows.ensures
+    c.column_count.ensures c.if-is_bad_map.ensures c.in_default-fills_fault.ensures c.insert_rows.ensures

@@ -16,7 +16,7 @@ read_row-row-requires c = row-sized c.loop-k.invariant c.loop-k-test.true c.in-O
 pub update-requires : goal.update-requires
 update-requires c = (
   c.loop-k.invariant.books,
-  rw c.deref.ensures.0
+  rw c.deref.ensures
       (row-full c.loop-k.invariant c.loop-k-test.true c.in-Ok.ensures c.counted.ensures c.read_row-row.ensures.0 c.read_row-row.ensures.1 c.read_row-row.ensures.2),
   c.in-Ok.ensures.proper,
   old-alone c.loop-k.invariant c.loop-k-test.true c.in-Ok.ensures _ refl refl refl,
@@ -26,7 +26,7 @@ pub returns-in_err-update : goal.returns-in_err-update
 returns-in_err-update c =
     let p = err_from_is_err_and c.from_residual.result c.from_residual.ensures.1 in
     rw (p.1, p.2)
-    (updating-stops c.loop-k.invariant c.loop-k-test.true c.in-Ok.ensures c.counted.ensures c.read_row-row.ensures.0 c.read_row-row.ensures.1 c.read_row-row.ensures.2 (rw c.deref.ensures.0 at c.update.ensures)
+    (updating-stops c.loop-k.invariant c.loop-k-test.true c.in-Ok.ensures c.counted.ensures c.read_row-row.ensures.0 c.read_row-row.ensures.1 c.read_row-row.ensures.2 (rw c.deref.ensures at c.update.ensures)
     c.in_err-update.was)
 
 pub unreachable-requires-in_default-values_end : goal.unreachable-requires-in_default-values_end
@@ -34,7 +34,7 @@ unreachable-requires-in_default-values_end c = row-walks c.loop-k.invariant c.lo
 
 pub loop-k-preserved : goal.loop-k-preserved
 loop-k-preserved c =
-    updating-next c.loop-k.invariant c.loop-k-test.true c.in-Ok.ensures c.counted.ensures c.read_row-row.ensures.0 c.read_row-row.ensures.1 c.read_row-row.ensures.2 (rw c.deref.ensures.0 at c.update.ensures)
+    updating-next c.loop-k.invariant c.loop-k-test.true c.in-Ok.ensures c.counted.ensures c.read_row-row.ensures.0 c.read_row-row.ensures.1 c.read_row-row.ensures.2 (rw c.deref.ensures at c.update.ensures)
     c.in_ok-update.was c.in-Ok-values_end.ensures
 
 pub returns : goal.returns

@@ -1,14 +1,14 @@
 -- `requests::line::put_answer` meets its contract. Assumes nothing.
-use mathlib.Core.Path.{◌∙◌}
+use mathlib.Core.Path.{refl, ◌∙◌}
 use borrow.Author.Rules.{rules}
 use native.Mathlib.Omega.{arith}
-use Rattle.rules.specs.Request.{told}
-use Rattle.requests.proofs.Fronts.{tells, line_ok, line-no}
+use Rattle.rules.specs.Request.{ok, told}
+use Rattle.requests.proofs.Fronts.{tells, line-accepted, line-no}
 use Rattle.requests.proofs.line.put_answer.Goals as goal
 
 pub returns-in-Ok : goal.returns-in-Ok
 returns-in-Ok c =
-    rw c.in-Ok.is (line_ok c.in-Ok.count _ c.args.out.now _ _ c.copy_from_slice.ensures.after (omega arith) c.put_last.ensures.0, omega (arith, c.put_last.ensures.1))
+    rw c.in-Ok.is (line-accepted (ok c.in-Ok.count) _ c.args.out.now _ _ refl c.copy_from_slice.ensures.after (omega arith) c.put_last.ensures.0, omega (arith, c.put_last.ensures.1))
 
 pub returns-in-Err : goal.returns-in-Err
 returns-in-Err c =

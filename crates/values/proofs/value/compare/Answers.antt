@@ -1,7 +1,7 @@
 use Rattle.std.proofs.Common.{ap, sym, ◌∙◌, subst}
 use Rattle.values.specs.Value.{kind_of}
 use Rattle.values.specs.Meaning.{meaning, Proper}
-use Rattle.values.proofs.Compared.{by_kind, nulls, no-boolean, no-integer, no-float, no-text, booleans, integers, floats, texts}
+use Rattle.values.proofs.Compared.{kinds_told, nulls, no-boolean, no-integer, no-float, no-text, booleans, integers, floats, texts}
 use Rattle.values.proofs.value.compare.Goals as goal
 use Rattle.values.proofs.value.compare.Goals.{in_default-via-in-Boolean+in_default, in_default-via-in-Integer+in_default, in_default-via-in-Float+in_default, in_default-via-in-Text+in_default, in_default-via-in_default}
 
@@ -26,7 +26,7 @@ returns-in-Text-Text c = texts _ _ _ _ _ c.in-Text-Text.is-0 c.in-Text-Text.is-1
 pub returns-in_default : goal.returns-in_default
 unfolding meaning
 returns-in_default c =
-    by_kind _ _ _ _ _ c.cmp-in_default.ensures c.datatype.ensures c.datatype-in_default.ensures (λ e. elim c.in_default.branch [
+    kinds_told _ _ _ _ _ c.cmp-in_default.ensures c.datatype.ensures c.datatype-in_default.ensures (λ e. elim c.in_default.branch [
       | in_default-via-in-Boolean+in_default w ↦ absurd (no-boolean _ w.in_default.not-Boolean-1 (sym e ∙ ap (λ v. kind_of (meaning v)) w.in_default.is-0))
       | in_default-via-in-Integer+in_default w ↦ absurd (no-integer _ w.in_default.not-Integer-1 (sym e ∙ ap (λ v. kind_of (meaning v)) w.in_default.is-0))
       | in_default-via-in-Float+in_default w ↦ absurd (no-float _ w.in_default.not-Float-1 (sym e ∙ ap (λ v. kind_of (meaning v)) w.in_default.is-0))

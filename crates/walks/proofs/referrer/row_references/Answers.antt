@@ -10,7 +10,7 @@ use Rattle.laid.proofs.Stores.{held-inside}
 use Rattle.laid.proofs.RowFacts.{start-table, start-least}
 use Rattle.walks.proofs.Searched.{at_table, search-start, search-end, table-first, table-next, column-past, column-rows, column-next, row-of, row-past, row-hit, key-there, carried-is}
 use Rattle.walks.proofs.referrer.row_references.Goals as goal
-use Rattle.walks.proofs.referrer.row_references.Goals.{then-is_searched+in-None, else-is_searched}
+use Rattle.walks.proofs.referrer.row_references.Goals.{then-is_searched+else-loop-k-test, else-is_searched}
 
 pub table_count-t-end-requires : goal.table_count-t-end-requires
 table_count-t-end-requires c = let a = c.args in inside-header a.p a.places a.s.now (held-inside a.p a.places a.s.now c.requires.0)
@@ -52,22 +52,20 @@ loop-j-init c =
 pub is_searched-requires : goal.is_searched-requires
 is_searched-requires c = let h = c.loop-j.invariant.table in (c.requires.0, h.known, omega (arith, h.counted, c.loop-j-test.true), c.requires.1)
 
-pub scan-k-items-requires : goal.scan-k-items-requires
-scan-k-items-requires c = (c.requires.0, c.loop-j.invariant.table.packed)
+pub scan-rows-requires : goal.scan-rows-requires
+scan-rows-requires c = (c.requires.0, c.loop-j.invariant.table.packed)
 
 pub loop-k-init : goal.loop-k-init
 loop-k-init c =
     let a = c.args in
     let h = c.loop-j.invariant.table in
-    rw c.into_iter-k-iterator.ensures.into_iter_gives
-    (column-rows a.p a.places a.s.now (text_bytes a.name) (values_of a.values) c.loop-t.t c.loop-j.j (omega (arith, h.counted, c.loop-j-test.true)) c.loop-j.invariant.left _ c.is_searched.ensures c.if-is_searched.true _ _ _ c.scan-k-items.ensures h.named _ h.whose)
+    column-rows a.p a.places a.s.now (text_bytes a.name) (values_of a.values) c.loop-t.t c.loop-j.j (omega (arith, h.counted, c.loop-j-test.true)) c.loop-j.invariant.left _ c.is_searched.ensures c.if-is_searched.true _ _ c.scan-rows.ensures h.named _ h.whose
 
 pub is_referring-requires : goal.is_referring-requires
 is_referring-requires c =
     let a = c.args in
     let h = c.loop-j.invariant.table in
-    let s = c.in-Some.ensures.steps in
-    (c.requires.0, rw s.1.1 (row-of a.p a.places a.s.now (text_bytes a.name) (values_of a.values) c.requires.0 c.loop-t.t c.loop-j.j _ _ c.loop-k.k-iterator.start c.loop-k.invariant (omega (arith, s.1.0)) h.known), omega (arith, h.counted, c.loop-j-test.true))
+    (c.requires.0, (row-of a.p a.places a.s.now (text_bytes a.name) (values_of a.values) c.requires.0 c.loop-t.t c.loop-j.j _ _ c.loop-k.k c.loop-k.invariant c.loop-k-test.true h.known), omega (arith, h.counted, c.loop-j-test.true))
 
 pub key_column-column-requires : goal.key_column-column-requires
 key_column-column-requires c =
@@ -77,24 +75,21 @@ key_column-column-requires c =
 pub cell_at-key-requires : goal.cell_at-key-requires
 cell_at-key-requires c =
     let a = c.args in
-    let s = c.in-Some.ensures.steps in
-    let o = row-of a.p a.places a.s.now (text_bytes a.name) (values_of a.values) c.requires.0 c.loop-t.t c.loop-j.j _ _ c.loop-k.k-iterator.start c.loop-k.invariant (omega (arith, s.1.0)) c.loop-j.invariant.table.known in
-    rw s.1.1 (c.requires.0, o.stored, key-there a.p a.places a.s.now c.requires.0 c.loop-t.t _ o _ c.table_record-rec.ensures _ c.key_column-column.ensures)
+    let o = row-of a.p a.places a.s.now (text_bytes a.name) (values_of a.values) c.requires.0 c.loop-t.t c.loop-j.j _ _ c.loop-k.k c.loop-k.invariant c.loop-k-test.true c.loop-j.invariant.table.known in
+    (c.requires.0, o.stored, key-there a.p a.places a.s.now c.requires.0 c.loop-t.t _ o _ c.table_record-rec.ensures _ c.key_column-column.ensures)
 
 pub returns-then-is_referring : goal.returns-then-is_referring
 returns-then-is_referring c =
     let a = c.args in
-    let s = c.in-Some.ensures.steps in
-    let g = row-hit a.p a.places a.s.now (text_bytes a.name) (values_of a.values) c.requires.0 c.loop-t.t c.loop-j.j _ _ c.loop-k.k-iterator.start c.loop-k.invariant (omega (arith, s.1.0)) c.loop-j.invariant.table.known _ (rw s.1.1 at c.is_referring.ensures) c.if-is_referring.true in (
-      carried-is a.p a.places a.s.now (text_bytes a.name) (values_of a.values) c.requires.0 c.loop-t.t _ g _ c.table_record-rec.ensures _ c.key_column-column.ensures _ _ c.read_name-table.ensures.0 (rw s.1.1 at c.cell_at-key.ensures.0),
+    let g = row-hit a.p a.places a.s.now (text_bytes a.name) (values_of a.values) c.requires.0 c.loop-t.t c.loop-j.j _ _ c.loop-k.k c.loop-k.invariant c.loop-k-test.true c.loop-j.invariant.table.known _ c.is_referring.ensures c.if-is_referring.true in (
+      carried-is a.p a.places a.s.now (text_bytes a.name) (values_of a.values) c.requires.0 c.loop-t.t _ g _ c.table_record-rec.ensures _ c.key_column-column.ensures _ _ c.read_name-table.ensures.0 c.cell_at-key.ensures.0,
       record { table = c.read_name-table.ensures.1; key = c.cell_at-key.ensures.1 },
     )
 
 pub loop-k-preserved : goal.loop-k-preserved
 loop-k-preserved c =
     let a = c.args in
-    let s = c.in-Some.ensures.steps in
-    rw (s.0, s.1.2) (row-past a.p a.places a.s.now (text_bytes a.name) (values_of a.values) c.requires.0 c.loop-t.t c.loop-j.j _ _ c.loop-k.k-iterator.start c.loop-k.invariant (omega (arith, s.1.0)) _ (rw s.1.1 at c.is_referring.ensures) c.if-is_referring.false)
+    row-past a.p a.places a.s.now (text_bytes a.name) (values_of a.values) c.requires.0 c.loop-t.t c.loop-j.j _ _ c.loop-k.k c.loop-k.invariant c.loop-k-test.true _ c.is_referring.ensures c.if-is_referring.false
 
 pub loop-j-preserved : goal.loop-j-preserved
 loop-j-preserved c =
@@ -104,7 +99,7 @@ loop-j-preserved c =
       table = h;
       left =
           elim c.if-is_searched.branch [
-            | then-is_searched+in-None w ↦ column-next a.p a.places a.s.now (text_bytes a.name) (values_of a.values) c.loop-t.t c.loop-j.j _ _ _ w.loop-k.invariant (omega (arith, w.in-None.ensures.steps))
+            | then-is_searched+else-loop-k-test w ↦ column-next a.p a.places a.s.now (text_bytes a.name) (values_of a.values) c.loop-t.t c.loop-j.j _ _ _ w.loop-k.invariant (omega (arith, w.loop-k-test.false))
             | else-is_searched w ↦ column-past a.p a.places a.s.now (text_bytes a.name) (values_of a.values) c.loop-t.t c.loop-j.j (omega (arith, h.counted, c.loop-j-test.true)) c.loop-j.invariant.left _ c.is_searched.ensures w.if-is_searched.false
           ];
     }

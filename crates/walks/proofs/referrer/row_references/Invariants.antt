@@ -14,4 +14,4 @@ invariant-loop-j l =
     }
 
 abbrev pub invariant-loop-k : goal.invariant-loop-k
-invariant-loop-k l = FromRow l.p l.places l.s (text_bytes l.name) (values_of l.values) l.t l.j l.own l.k-iterator.end l.k-iterator.start
+invariant-loop-k l = FromRow l.p l.places l.s (text_bytes l.name) (values_of l.values) l.t l.j l.own l.k-end l.k
