@@ -31,7 +31,7 @@ pub struct Row {
 impl Row {
     // No value yet.
     pub fn new() -> Row
-        ensures { in_flight result ≡ [] }
+        ensures { (in_flight result ≡ []) × (result.count ≡ length (in_flight result)) }
     {
         Row {
             cells: [Cell { value: Value::Null }; CELLS_MOST],
@@ -42,7 +42,7 @@ impl Row {
     // A value more, behind the others.
     pub fn push(&mut self, cell: Cell)
         requires { length (in_flight self.old) < 8 }
-        ensures { in_flight self.new ≡ in_flight self.old ++ cell ∷ [] }
+        ensures { (in_flight self.new ≡ in_flight self.old ++ cell ∷ []) × (self.new.count ≡ length (in_flight self.new)) }
     {
         self.cells[self.count] = cell;
         self.count += 1;

@@ -88,7 +88,7 @@ fn given_value(rec: &[u8], m: Option<Map>, mut values: Values<'_>, j: usize) -> 
 // The full row of a table record from given values and defaults; none where a column has neither.
 pub fn fill(table: &[u8], p: Profile, rec: &[u8], m: Option<Map>, values: Values<'_>) -> Option<Row>
     requires { TableBytes p table.now × (p.columns ≤ 8) × MapIn rec.now m }
-    ensures { (filled_of result ≡ filled (given (map_of rec.now m) (values_of values.entry)) 0 (read_table p table.now).columns) × IfSome result (λ r. ProperRow (in_flight r)) }
+    ensures { (filled_of result ≡ filled (given (map_of rec.now m) (values_of values.entry)) 0 (read_table p table.now).columns) × IfSome result (λ r. ProperRow (in_flight r) × (r.count ≤ 8)) }
 {
     let mut row = Row::new();
     for j in 0..catalog::column_count(table) {

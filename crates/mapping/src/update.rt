@@ -77,7 +77,7 @@ pub fn size_fault(table: &[u8], p: Profile, rec: &[u8], at: usize, n: usize) -> 
 // The row of these values.
 pub fn read_row(values: Values<'_>) -> Row
     requires { (values.count ≤ 8) × (length (values_of values) ≡ values.count) }
-    ensures { (cells_of (in_flight result) ≡ values_of values.entry) × ProperRow (in_flight result) × (length (in_flight result) ≡ values.entry.count) }
+    ensures { (cells_of (in_flight result) ≡ values_of values.entry) × ProperRow (in_flight result) × (length (in_flight result) ≡ values.entry.count) × (result.count ≡ values.entry.count) }
 {
     let mut row = Row::new();
     for cell in values {

@@ -12,13 +12,10 @@ use Rattle.std.specs.Result.{IsErrAnd}
 use Rattle.rules.specs.declared.answer.Refusal as D
 use Rattle.rules.specs.declared.answer.Refusal.TheVariants as V
 use Rattle.rules.specs.declared.answer.Refused.{Refused}
-use Rattle.rules.specs.declared.answer.Carried.{Carried}
-use Rattle.std.specs.declared.option.Option.{Option as Held}
-use Rattle.std.specs.declared.option.Option.TheVariants.{None, Some}
 use Rattle.std.specs.declared.result.Result.TheVariants.{Ok, Err}
 use Rattle.rules.specs.Journal.{Books}
 use Rattle.rules.specs.Pages.{books_of}
-use Rattle.rules.specs.Request.{Reply, said, told, no_with, ok, no}
+use Rattle.rules.specs.Request.{Reply, said, told, ok, no}
 use Rattle.rules.specs.Step.{apply_all, note_all, changed, Outcome, is_accepted, at_place, numbered, in_turn}
 use Rattle.rules.proofs.Removed.{changed-append}
 use Rattle.rules.proofs.Turns.{in-turn-nil, in-turn-yes, in-turn-no, numbered-accepted, numbered-no}
@@ -69,11 +66,7 @@ refusal-not V.InsideBatch = refl
 refusal-not V.BatchOutOfTurn = refl
 
 never-accepted : (y : Refused) → is_accepted (told y) ≡ false
-never-accepted y = go y.carried
-  where
-    go : (o : Held Carried) → is_accepted (no_with (refusal_of y.kind) y.at o) ≡ false
-    go None = refusal-not y.kind
-    go (Some x) = refusal-not y.kind
+never-accepted y = refusal-not y.kind
 
 -- what the exit of a `?` says that a fault was turned into
 pub refused-by : (r : Answer) (k : Refusal) (i : ℕ) → IsErrAnd r (λ y. told y ≡ no k i) → said r ≡ no k i

@@ -10,9 +10,6 @@ use lib.ListN.{length, get_or, take, drop, set, length-append, length-drop, leng
 use lib.Seq.{length-take-le, take_all, take_at, drop_at, drop-drop, drop-cons, set_at, drop-length}
 use borrow.Rule.Slice.PartMut.{put_mid}
 use Rattle.forms.specs.Print.{decimal, Front}
-use Rattle.std.specs.declared.option.Option.{Option}
-use Rattle.std.specs.declared.option.Option.TheVariants.{None, Some}
-use Rattle.rules.specs.declared.answer.Carried.{Carried}
 use Rattle.rules.specs.declared.answer.Refused.{Refused}
 use Rattle.rules.specs.declared.answer.Refusal.{Refusal}
 use Rattle.rules.specs.declared.answer.Refusal.TheVariants as V
@@ -150,11 +147,7 @@ pub record Tells (f : Refused) : Type 0 where
   pub count : (told f).count ≡ 0
 
 pub tells : (f : Refused) → Tells f
-tells f = go f.carried refl
-  where
-    go : (x : Option Carried) → f.carried ≡ x → Tells f
-    go None e = record { refused = rw e (numbered f.kind); code = rw e; at = rw e; count = rw e }
-    go (Some x) e = record { refused = rw e (numbered f.kind); code = rw e; at = rw e; count = rw e }
+tells f = record { refused = numbered f.kind; code = refl; at = refl; count = refl }
 
 -- the word w, which is v, and what was written behind it
 module _ (w v out : List ℕ) (e : w ≡ v) (ev : 2 ≡ length v) (l : 2 ≤ length out) where

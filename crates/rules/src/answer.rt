@@ -1,7 +1,7 @@
 // What a request is answered.
-ghost use Rattle.std.specs.Prelude.{◌≡◌, false};
+ghost use Rattle.std.specs.Prelude.{◌≡◌};
 ghost use Rattle.rules.specs.Refusal.{number_of, refusal_of};
-ghost use Rattle.rules.specs.Request.{told, no, no_with, no_carrying, carried_of, with_gone};
+ghost use Rattle.rules.specs.Request.{told, no, no_carrying, carried_of, with_gone};
 
 use values::value::{Text, Value};
 
@@ -50,7 +50,8 @@ pub enum Refusal {
     BatchOutOfTurn = 45,
 }
 
-// What 20 and 32 carry: the referencing table, its first referencing column, or its key column and the key of a row there.
+// What 20 and 32 carry: the referencing table, its first referencing column, or its key column and the key of a row there. Any other refusal
+// carries a table without a name, column 0 and NULL.
 #[derive(Clone, Copy)]
 pub struct Carried {
     pub table: Text,
@@ -64,7 +65,7 @@ pub struct Refused {
     pub kind: Refusal,
     pub at: usize,
     pub gone: bool,
-    pub carried: Option<Carried>,
+    pub carried: Carried,
 }
 
 // `ok N`, or why not.
@@ -79,22 +80,27 @@ pub fn number(k: Refusal) -> u64
 
 impl Refused {
     // `no CODE AT 0`, carrying nothing.
+    #[tactic(auto, unfolding(values::specs::Meaning::text_bytes, values::specs::Meaning::meaning))]
     pub fn new(kind: Refusal, at: usize) -> Refused
-        ensures { (told result ≡ no (refusal_of kind) at) × (result.carried ≡ None) }
+        ensures { told result ≡ no (refusal_of kind) at }
     {
-        Refused::made(kind, at, None)
+        let nameless = Text {
+            a: 0,
+            b: 0,
+            c: 0,
+            len: 0,
+        };
+        let nothing = Carried {
+            table: nameless,
+            column: 0,
+            key: Value::Null,
+        };
+        Refused::carrying(kind, at, nothing)
     }
 
     // A refusal that carries a table, a column and a key.
     pub fn carrying(kind: Refusal, at: usize, carried: Carried) -> Refused
         ensures { told result ≡ no_carrying (refusal_of kind) at (carried_of carried) }
-    {
-        Refused::made(kind, at, Some(carried))
-    }
-
-    // A refusal without GONE.
-    fn made(kind: Refusal, at: usize, carried: Option<Carried>) -> Refused
-        ensures { (told result ≡ with_gone false (no_with (refusal_of kind) at carried)) × (result.carried ≡ carried) }
     {
         Refused {
             kind,

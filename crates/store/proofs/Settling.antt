@@ -16,14 +16,11 @@ use Rattle.rules.specs.Request.{Answer}
 use Rattle.rules.specs.Profile.{row_width}
 use Rattle.rules.specs.State.{Name, Row}
 use Rattle.rules.specs.Journal.{Event, absent, stood, lacks, Books}
-use Rattle.rules.specs.declared.answer.Carried as C
 use Rattle.rules.specs.declared.answer.Refusal as R
 use Rattle.rules.specs.declared.answer.Refusal.TheVariants as V
 use Rattle.rules.specs.declared.answer.Refused.{Refused}
 use Rattle.rules.specs.Refusal.{number_of, refusal_of}
-use Rattle.rules.specs.Request.{Reply, said, told, no_with, with_gone}
-use Rattle.std.specs.declared.option.Option as O
-use Rattle.std.specs.declared.option.Option.TheVariants.{None, Some}
+use Rattle.rules.specs.Request.{Reply, said, told}
 use Rattle.rules.specs.Step.{Change, changed, Outcome, refused, is_accepted, apply_all, note_all}
 use Rattle.rules.specs.Sound.{every, good_event}
 use Rattle.rules.specs.Layout.{row_record}
@@ -129,11 +126,7 @@ refusal-refuses V.InsideBatch = refl
 refusal-refuses V.BatchOutOfTurn = refl
 
 pub told-refuses : (f : Refused) → is_accepted (told f) ≡ false
-told-refuses f = go f.carried
-  where
-    go : (x : O.Option C.Carried) → is_accepted (with_gone f.gone (no_with (refusal_of f.kind) f.at x)) ≡ false
-    go None = refusal-refuses f.kind
-    go (Some x) = refusal-refuses f.kind
+told-refuses f = refusal-refuses f.kind
 
 -- ---- both stay as they are
 

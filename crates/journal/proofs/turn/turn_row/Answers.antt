@@ -23,25 +23,25 @@ pub offset_bounds-deref-at : goal.offset_bounds-deref-at
 offset_bounds-deref-at c = let h = c.requires.0.place in omega (arith, key-less h c.named_at-at.ensures, columns-few h c.named_at-at.ensures, h.batch.paging.most)
 
 pub bounds-deref-at : goal.bounds-deref-at
-bounds-deref-at c = let h = c.requires.0.place in let w = flown h c.named_at-at.ensures c.table_record.ensures c.column_count-count.ensures c.content_at.ensures c.row_from-row.ensures c.deref.ensures c.deref.ensures in w.inside
+bounds-deref-at c = let h = c.requires.0.place in let w = flown h c.named_at-at.ensures c.table_record.ensures c.column_count-count.ensures c.content_at.ensures c.row_from-row.ensures.0 c.deref.ensures c.deref.ensures in w.inside
 
 pub find_row-requires : goal.find_row-requires
-find_row-requires c = let h = c.requires.0.place in let w = flown h c.named_at-at.ensures c.table_record.ensures c.column_count-count.ensures c.content_at.ensures c.row_from-row.ensures c.deref.ensures c.deref.ensures in (h.batch.store, key-found h c.named_at-at.ensures, c.named_at-at.ensures.proper, w.key_proper)
+find_row-requires c = let h = c.requires.0.place in let w = flown h c.named_at-at.ensures c.table_record.ensures c.column_count-count.ensures c.content_at.ensures c.row_from-row.ensures.0 c.deref.ensures c.deref.ensures in (h.batch.store, key-found h c.named_at-at.ensures, c.named_at-at.ensures.proper, w.key_proper)
 
 pub swap-requires-clause-laid_store : goal.swap-requires-clause-laid_store
-swap-requires-clause-laid_store c = let h = c.requires.0.place in let w = flown h c.named_at-at.ensures c.table_record.ensures c.column_count-count.ensures c.content_at.ensures c.row_from-row.ensures c.deref-in-Some.ensures c.deref.ensures in (h.batch.store, w.proper, row-replaceable h c.named_at-at.ensures c.requires.1 w.cells w.key c.in-Some.ensures c.requires.0.room)
+swap-requires-clause-laid_store c = let h = c.requires.0.place in let w = flown h c.named_at-at.ensures c.table_record.ensures c.column_count-count.ensures c.content_at.ensures c.row_from-row.ensures.0 c.deref-in-Some.ensures c.deref.ensures in (h.batch.store, w.proper, row-replaceable h c.named_at-at.ensures c.requires.1 w.cells w.key c.in-Some.ensures c.requires.0.room)
 
 pub swap-requires-clause-p_in_bounds : goal.swap-requires-clause-p_in_bounds
 swap-requires-clause-p_in_bounds c = turn-place c.requires.0.place
 
 pub swap_in-requires-clause-laid_store : goal.swap_in-requires-clause-laid_store
-swap_in-requires-clause-laid_store c = let h = c.requires.0.place in let w = flown h c.named_at-at.ensures c.table_record.ensures c.column_count-count.ensures c.content_at.ensures c.row_from-row.ensures c.deref-in-None.ensures c.deref.ensures in (h.batch.store, w.proper, row-addable h c.named_at-at.ensures c.requires.1 w.cells w.key c.in-None.ensures c.requires.0.room)
+swap_in-requires-clause-laid_store c = let h = c.requires.0.place in let w = flown h c.named_at-at.ensures c.table_record.ensures c.column_count-count.ensures c.content_at.ensures c.row_from-row.ensures.0 c.deref-in-None.ensures c.deref.ensures in (h.batch.store, w.proper, row-addable h c.named_at-at.ensures c.requires.1 w.cells w.key c.in-None.ensures c.requires.0.room)
 
 pub swap_in-requires-clause-paging : goal.swap_in-requires-clause-paging
-swap_in-requires-clause-paging c = let h = c.requires.0.place in let w = flown h c.named_at-at.ensures c.table_record.ensures c.column_count-count.ensures c.content_at.ensures c.row_from-row.ensures c.deref-in-None.ensures c.deref.ensures in (h.batch.paging, turn-place h, c.named_at-at.ensures.proper, w.key_proper)
+swap_in-requires-clause-paging c = let h = c.requires.0.place in let w = flown h c.named_at-at.ensures c.table_record.ensures c.column_count-count.ensures c.content_at.ensures c.row_from-row.ensures.0 c.deref-in-None.ensures c.deref.ensures in (h.batch.paging, turn-place h, c.named_at-at.ensures.proper, w.key_proper)
 
 pub returns-in-Some : goal.returns-in-Some
-returns-in-Some c = let h = c.requires.0.place in let w = flown h c.named_at-at.ensures c.table_record.ensures c.column_count-count.ensures c.content_at.ensures c.row_from-row.ensures c.deref-in-Some.ensures c.deref.ensures in row-changed h c.named_at-at.ensures c.requires.1 w.cells w.key c.in-Some.ensures c.swap.ensures
+returns-in-Some c = let h = c.requires.0.place in let w = flown h c.named_at-at.ensures c.table_record.ensures c.column_count-count.ensures c.content_at.ensures c.row_from-row.ensures.0 c.deref-in-Some.ensures c.deref.ensures in row-changed h c.named_at-at.ensures c.requires.1 w.cells w.key c.in-Some.ensures c.swap.ensures
 
 pub returns-in-None : goal.returns-in-None
-returns-in-None c = let h = c.requires.0.place in let w = flown h c.named_at-at.ensures c.table_record.ensures c.column_count-count.ensures c.content_at.ensures c.row_from-row.ensures c.deref-in-None.ensures c.deref.ensures in row-came h c.named_at-at.ensures c.requires.1 w.cells w.key c.in-None.ensures c.swap_in.ensures
+returns-in-None c = let h = c.requires.0.place in let w = flown h c.named_at-at.ensures c.table_record.ensures c.column_count-count.ensures c.content_at.ensures c.row_from-row.ensures.0 c.deref-in-None.ensures c.deref.ensures in row-came h c.named_at-at.ensures c.requires.1 w.cells w.key c.in-None.ensures c.swap_in.ensures

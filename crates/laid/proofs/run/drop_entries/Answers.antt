@@ -1,7 +1,5 @@
 -- The run of the table's index entries is gone.
 use Rattle.std.proofs.Common.{refl}
-use Rattle.rules.specs.Layout.{Entries}
-use Rattle.laid.specs.Catalog.{RunIn, AreaIs}
 use Rattle.laid.proofs.Runs.{run-searched, run-shrinks, run-gone, run-counter, run-begins, run-wide}
 use Rattle.laid.proofs.run.drop_entries.Goals as goal
 

@@ -1,7 +1,5 @@
 -- The run of the table's rows is gone.
 use Rattle.std.proofs.Common.{refl}
-use Rattle.rules.specs.Layout.{Rows}
-use Rattle.laid.specs.Catalog.{RunIn, AreaIs}
 use Rattle.laid.proofs.Runs.{run-searched, run-shrinks, run-gone, run-counter, run-begins, run-wide}
 use Rattle.laid.proofs.run.drop_rows.Goals as goal
 

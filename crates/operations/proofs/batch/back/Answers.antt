@@ -7,7 +7,7 @@ pub is_open-requires : goal.is_open-requires
 is_open-requires c = journal-there c.requires
 
 pub returns-then-not-is_open : goal.returns-then-not-is_open
-returns-then-not-is_open c = back-refused c.requires (sym c.is_open.ensures ∙ c.if-not-is_open.true) c.new.ensures.0
+returns-then-not-is_open c = back-refused c.requires (sym c.is_open.ensures ∙ c.if-not-is_open.true) c.new.ensures
 
 pub unwind-requires : goal.unwind-requires
 unwind-requires c = batch-there c.requires (sym c.is_open.ensures ∙ c.if-not-is_open.false)

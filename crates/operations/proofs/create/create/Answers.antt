@@ -54,7 +54,7 @@ is_open-requires c = journal-there c.requires.0
 pub returns-then-is_open : goal.returns-then-is_open
 returns-then-is_open c =
     create-inside (create-got c.args.rec.now (λ i. omega (arith, c.type_inv.rec i)) c.args.p c.args.at c.requires.1) c.requires.0
-    (sym c.is_open.ensures ∙ c.if-is_open.true) c.new.ensures.0
+    (sym c.is_open.ensures ∙ c.if-is_open.true) c.new.ensures
 
 pub returns : goal.returns
 returns c =

@@ -10,7 +10,7 @@ pub is_open-open-requires : goal.is_open-open-requires
 is_open-open-requires c = journal-there c.requires.0
 
 pub returns-then-open : goal.returns-then-open
-returns-then-open c = drop-acted _ (drop-read c.in-Ok.ensures c.requires.1 _ refl) (inside-refused c.requires.0 _ (sym c.if-open.ensures) c.new.ensures.0)
+returns-then-open c = drop-acted _ (drop-read c.in-Ok.ensures c.requires.1 _ refl) (inside-refused c.requires.0 _ (sym c.if-open.ensures) c.new.ensures)
 
 pub returns : goal.returns
 returns c =

@@ -4,7 +4,7 @@ use Rattle.operations.proofs.Entered.{ended, operands-got, written, read_only, b
 use Rattle.operations.proofs.operate.execute.Goals as goal
 
 pub returns-then-is_err : goal.returns-then-is_err
-returns-then-is_err c = broken-kept _ _ c.walk.result c.walk.ensures c.if-is_err.ensures.value _ _ _ c.requires _ c.new.ensures.0
+returns-then-is_err c = broken-kept _ _ c.walk.result c.walk.ensures c.if-is_err.ensures.value _ _ _ c.requires _ c.new.ensures
 
 pub ask-requires : goal.ask-requires
 ask-requires c =

@@ -18,7 +18,7 @@ get_table-requires c = (store-catalog _ _ _ c.requires.0.store, c.in-Ok.ensures.
 
 pub returns-in_default-get_table : goal.returns-in_default-get_table
 returns-in_default-get_table c =
-    acted-unknown c.requires.0 _ ((insert-said c.requires.1 c.in-Ok.ensures c.in-Ok-map_end.ensures).asks _ refl _ refl) c.in_default-get_table.ensures c.new.ensures.0
+    acted-unknown c.requires.0 _ ((insert-said c.requires.1 c.in-Ok.ensures c.in-Ok-map_end.ensures).asks _ refl _ refl) c.in_default-get_table.ensures c.new.ensures
 
 pub read_map-m-requires : goal.read_map-m-requires
 read_map-m-requires c = map-got c.requires.1 c.in-Ok.ensures
@@ -35,7 +35,7 @@ column_count-requires c = record-least _ _ (named-bytes c.requires.0.store _ c.i
 pub returns-then-is_bad_map : goal.returns-then-is_bad_map
 returns-then-is_bad_map c =
     acted-bad c.requires.0 _ ((insert-said c.requires.1 c.in-Ok.ensures c.in-Ok-map_end.ensures).asks _ refl _ c.read_map-m.ensures.0) c.in-Some.ensures c.table_record-table.ensures
-    c.column_count.ensures c.if-is_bad_map.ensures c.new-then-is_bad_map.ensures.0
+    c.column_count.ensures c.if-is_bad_map.ensures c.new-then-is_bad_map.ensures
 
 pub overflow_add-from : goal.overflow_add-from
 overflow_add-from c = omega (arith, (insert-said c.requires.1 c.in-Ok.ensures c.in-Ok-map_end.ensures).inside)
@@ -51,7 +51,7 @@ fills_fault-requires c = (
 pub returns-in-Err : goal.returns-in-Err
 returns-in-Err c =
     acted-faulty c.requires.0 _ ((insert-said c.requires.1 c.in-Ok.ensures c.in-Ok-map_end.ensures).asks _ c.byte_of-n.ensures _ c.read_map-m.ensures.0) c.in-Some.ensures c.table_record-table.ensures
-    c.column_count.ensures c.if-is_bad_map.ensures c.in-Err.ensures c.new-in-Err.ensures.0
+    c.column_count.ensures c.if-is_bad_map.ensures c.in-Err.ensures c.new-in-Err.ensures
 
 pub insert_rows-requires : goal.insert_rows-requires
 insert_rows-requires c = record {

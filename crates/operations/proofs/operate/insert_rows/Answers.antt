@@ -19,14 +19,14 @@ unreachable-requires c = inserting-fills c.loop-i.invariant (omega arith) c.tabl
 pub insert-requires : goal.insert-requires
 insert-requires c = (
   c.loop-i.invariant.books,
-  rw c.deref.ensures (inserting-full c.loop-i.invariant (omega arith) c.table_record-table.ensures c.counted.ensures c.in-Some.ensures.0 c.in-Some.ensures.1),
+  rw c.deref.ensures (inserting-full c.loop-i.invariant (omega arith) c.table_record-table.ensures c.counted.ensures c.in-Some.ensures.0 c.in-Some.ensures.1.0),
 )
 
 pub returns-in_err-insert : goal.returns-in_err-insert
 returns-in_err-insert c =
     let p = err_from_is_err_and c.from_residual.result c.from_residual.ensures.1 in
     rw (p.1, p.2)
-    (inserting-stops c.loop-i.invariant (omega arith) c.table_record-table.ensures c.counted.ensures c.in-Some.ensures.0 c.in-Some.ensures.1 (rw c.deref.ensures at c.insert.ensures)
+    (inserting-stops c.loop-i.invariant (omega arith) c.table_record-table.ensures c.counted.ensures c.in-Some.ensures.0 c.in-Some.ensures.1.0 (rw c.deref.ensures at c.insert.ensures)
     c.in_err-insert.was)
 
 pub unreachable-requires-in_default-values_end : goal.unreachable-requires-in_default-values_end
@@ -34,7 +34,7 @@ unreachable-requires-in_default-values_end c = inserting-walks c.loop-i.invarian
 
 pub loop-i-preserved : goal.loop-i-preserved
 loop-i-preserved c =
-    inserting-next c.loop-i.invariant (omega arith) c.table_record-table.ensures c.counted.ensures c.in-Some.ensures.0 c.in-Some.ensures.1 (rw c.deref.ensures at c.insert.ensures)
+    inserting-next c.loop-i.invariant (omega arith) c.table_record-table.ensures c.counted.ensures c.in-Some.ensures.0 c.in-Some.ensures.1.0 (rw c.deref.ensures at c.insert.ensures)
     c.in_ok-insert.was c.in-Ok.ensures
 
 pub returns : goal.returns

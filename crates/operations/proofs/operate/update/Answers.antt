@@ -14,7 +14,7 @@ get_table-requires c = (store-catalog _ _ _ c.requires.0.store, c.in-Ok.ensures.
 
 pub returns-in_default-get_table : goal.returns-in_default-get_table
 returns-in_default-get_table c =
-    update-missed c.requires.0 _ (update-read c.in-Ok.ensures c.requires.1 _ refl) c.in_default-get_table.ensures c.new.ensures.0
+    update-missed c.requires.0 _ (update-read c.in-Ok.ensures c.requires.1 _ refl) c.in_default-get_table.ensures c.new.ensures
 
 pub overflow_add-from : goal.overflow_add-from
 overflow_add-from c = omega (arith, update-inside c.in-Ok.ensures c.requires.1)

@@ -19,7 +19,7 @@ returns-then-is_err c =
     let e = walk-breaks _ _ c.walk.result c.walk.ensures (sym c.is_err.ensures.value ∙ c.if-is_err.true) in
     let x = books_of a.p a.places a.s.now a.j.now in
     broken-answered a.p a.places a.s.now a.j.now (request_of a.rec.now a.p) a.from a.out.now c.put_only.new.out c.put_only.result c.requires.0
-    (ap (outcome_of a.p a.places x) e.1 ∙ broken-outcome a.p a.places x _) (Err c.new.result) c.new.ensures.0 c.put_only.ensures c.put_only.auto.out
+    (ap (outcome_of a.p a.places x) e.1 ∙ broken-outcome a.p a.places x _) (Err c.new.result) c.new.ensures c.put_only.ensures c.put_only.auto.out
 
 pub ask-a-requires : goal.ask-a-requires
 ask-a-requires c =

@@ -24,7 +24,7 @@ pub returns-then-out-ge-ANSWER_MOST : goal.returns-then-out-ge-ANSWER_MOST
 returns-then-out-ge-ANSWER_MOST c =
     let e = c.are_sound.ensures in
     many-from e.1 e.2
-    (many-told (tested e c.if-not-are_sound.true) (Err c.new.result) c.new.ensures.0 c.if-out-ge-ANSWER_MOST.true c.put_answer-written.ensures.0)
+    (many-told (tested e c.if-not-are_sound.true) (Err c.new.result) c.new.ensures c.if-out-ge-ANSWER_MOST.true c.put_answer-written.ensures.0)
 
 pub returns-else-out-ge-ANSWER_MOST : goal.returns-else-out-ge-ANSWER_MOST
 returns-else-out-ge-ANSWER_MOST c =

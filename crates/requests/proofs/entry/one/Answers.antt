@@ -57,4 +57,4 @@ returns-in_default c =
       | in_default-via-in-Whole+else-n-rec w ↦ whole-longer full _ c.next_record.result c.next_record.ensures _ w.in-Whole.is w.if-n-rec.false
       | in_default-via-in_default w ↦ no_whole full _ c.next_record.result c.next_record.ensures w.in_default.not-Whole
     ])
-    c.new-in_default.ensures.0)
+    c.new-in_default.ensures)

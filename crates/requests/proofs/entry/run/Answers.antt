@@ -58,13 +58,13 @@ on c =
           rw (w.s-is, w.j-is, w.out-is, w.taken-is, w.skip-is, w.written-is) (on-whole g t r e w.in-Whole.is (λ i. (c.type_inv.input i).fits) x.ensures x.auto.s x.auto.j (not-false _ w.if-not-put.false))
       | in-Skip+then-left-n w ↦
           let x = w.put_answer-written in
-          rw (w.s-is, w.j-is, w.out-is, w.taken-is, w.skip-is, w.written-is) (on-past g t r e (Err w.new.result) w.new.ensures.0 x.ensures.0 x.auto.out w.in-Skip.is w.if-left-n.true)
+          rw (w.s-is, w.j-is, w.out-is, w.taken-is, w.skip-is, w.written-is) (on-past g t r e (Err w.new.result) w.new.ensures x.ensures.0 x.auto.out w.in-Skip.is w.if-left-n.true)
       | in-Skip+else-left-n w ↦
           let x = w.put_answer-written in
-          rw (w.s-is, w.j-is, w.out-is, w.taken-is, w.skip-is, w.written-is) (on-skip g t r e (Err w.new.result) w.new.ensures.0 x.ensures.0 x.auto.out w.in-Skip.is w.if-left-n.false)
+          rw (w.s-is, w.j-is, w.out-is, w.taken-is, w.skip-is, w.written-is) (on-skip g t r e (Err w.new.result) w.new.ensures x.ensures.0 x.auto.out w.in-Skip.is w.if-left-n.false)
       | in-Cut w ↦
           let x = w.put_answer-written-in-Cut in
-          rw (w.s-is, w.j-is, w.out-is, w.taken-is, w.skip-is, w.written-is) (on-cut g t r e (Err w.new-in-Cut.result) w.new-in-Cut.ensures.0 x.ensures.0 x.auto.out w.in-Cut.is)
+          rw (w.s-is, w.j-is, w.out-is, w.taken-is, w.skip-is, w.written-is) (on-cut g t r e (Err w.new-in-Cut.result) w.new-in-Cut.ensures x.ensures.0 x.auto.out w.in-Cut.is)
     ]
 
 pub overflow_add-count : goal.overflow_add-count

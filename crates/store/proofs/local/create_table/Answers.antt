@@ -19,7 +19,7 @@ get_table-requires c = (store-catalog _ _ _ c.requires.0, c.read_name-name.ensur
 
 pub returns-then-is_some : goal.returns-then-is_some
 returns-then-is_some c =
-    known_kept c.requires.0 c.requires.1 c.read_name-name.ensures.0 (place-given c.get_table.result c.get_table.ensures (sym c.if-is_some.ensures)).1 _ c.new.ensures.0
+    known_kept c.requires.0 c.requires.1 c.read_name-name.ensures.0 (place-given c.get_table.result c.get_table.ensures (sym c.if-is_some.ensures)).1 _ c.new.ensures
 
 pub validate-requires : goal.validate-requires
 validate-requires c = (store-catalog _ _ _ c.requires.0, c.requires.1)
@@ -36,7 +36,7 @@ table_count-count-requires c = laid-header _ _ _ _ (store_laid _ _ _ c.requires.
 pub returns-then-p-count : goal.returns-then-p-count
 returns-then-p-count c =
     full-kept c.requires.0 c.requires.1 c.read_name-name.ensures.0 (none-given c.get_table.result c.get_table.ensures (sym c.if-is_some.ensures)) c.in_ok-validate.ensures c.table_count-count.ensures
-    c.if-p-count.true _ c.new-then-p-count.ensures.0
+    c.if-p-count.true _ c.new-then-p-count.ensures
 
 pub slice_bounds-named_before-count : goal.slice_bounds-named_before-count
 slice_bounds-named_before-count c = laid-header _ _ _ _ (store_laid _ _ _ c.requires.0)

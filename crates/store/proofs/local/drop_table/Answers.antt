@@ -12,7 +12,7 @@ pub returns-then-lenient : goal.returns-then-lenient
 returns-then-lenient c = unknown-passed c.requires.0 (text_bytes c.args.name) c.if-lenient.true c.in_default.ensures _ refl
 
 pub returns-else-lenient : goal.returns-else-lenient
-returns-else-lenient c = unknown-kept c.requires.0 (text_bytes c.args.name) c.if-lenient.false c.in_default.ensures _ c.new.ensures.0
+returns-else-lenient c = unknown-kept c.requires.0 (text_bytes c.args.name) c.if-lenient.false c.in_default.ensures _ c.new.ensures
 
 pub table_references-requires : goal.table_references-requires
 table_references-requires c = (store-catalog _ _ _ c.requires.0, c.requires.1)

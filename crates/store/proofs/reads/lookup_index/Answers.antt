@@ -11,14 +11,14 @@ get_table-requires c = (held-catalog _ _ _ c.requires.0, c.requires.1)
 
 pub returns-in_default : goal.returns-in_default
 returns-in_default c =
-    c.new.ensures.0 ∙ lookup-unknown c.args.p c.args.places c.args.s.now (text_bytes c.args.name) c.args.column (values_of c.args.values) c.in_default.ensures
+    c.new.ensures ∙ lookup-unknown c.args.p c.args.places c.args.s.now (text_bytes c.args.name) c.args.column (values_of c.args.values) c.in_default.ensures
 
 pub is_indexed-requires : goal.is_indexed-requires
 is_indexed-requires c = (c.requires.0, table-known c.args.p c.args.places c.args.s.now (text_bytes c.args.name) c.in-Some.t c.in-Some.ensures)
 
 pub returns-then-not-is_indexed : goal.returns-then-not-is_indexed
 returns-then-not-is_indexed c =
-    c.new-then-not-is_indexed.ensures.0
+    c.new-then-not-is_indexed.ensures
     ∙ lookup-refused c.args.p c.args.places c.args.s.now (text_bytes c.args.name) c.in-Some.t c.in-Some.ensures c.args.column c.is_indexed.result (rw c.from.ensures at c.is_indexed.ensures)
     (values_of c.args.values) c.if-not-is_indexed.true
 

@@ -12,7 +12,7 @@ pub get_table-requires : goal.get_table-requires
 get_table-requires c = (store-catalog _ _ _ c.requires.0.store, c.requires.1)
 
 pub returns-in_default : goal.returns-in_default
-returns-in_default c = delete-missed c.requires.0 (text_bytes c.args.name) (values_of c.args.values) c.in_default.ensures _ c.new.ensures.0
+returns-in_default c = delete-missed c.requires.0 (text_bytes c.args.name) (values_of c.args.values) c.in_default.ensures _ c.new.ensures
 
 pub row_references-requires : goal.row_references-requires
 row_references-requires c = ((laid-books c.requires.0).store, c.requires.1)
@@ -27,7 +27,7 @@ lacks_places-requires c = (laid-books c.requires.0, table-known c.args.p c.args.
 pub returns-then-lacks_places : goal.returns-then-lacks_places
 returns-then-lacks_places c =
     delete-lacks c.requires.0 (text_bytes c.args.name) (values_of c.args.values) c.in-Some.t c.in-Some.ensures c.in_default-row_references.ensures.0 (sym c.if-lacks_places.ensures) _
-    c.new-then-lacks_places.ensures.0
+    c.new-then-lacks_places.ensures
 
 pub remove_keys-requires : goal.remove_keys-requires
 remove_keys-requires c =

@@ -10,7 +10,7 @@ use Rattle.store.proofs.rows.insert.Goals as goal
 pub returns-in-Err : goal.returns-in-Err
 unfolding at
 returns-in-Err c =
-    insert-refused c.requires.0 c.requires.1 c.args.n c.in-Err.kind c.args.n (ap (at c.args.n) (put-faulty _ _ _ _ _ _ _ c.in-Err.ensures)) _ c.new-refused.ensures.0
+    insert-refused c.requires.0 c.requires.1 c.args.n c.in-Err.kind c.args.n (ap (at c.args.n) (put-faulty _ _ _ _ _ _ _ c.in-Err.ensures)) _ c.new-refused.ensures
 
 pub has_places-requires : goal.has_places-requires
 has_places-requires c = paged-of (laid-books c.requires.0)
@@ -19,7 +19,7 @@ pub returns-then-not-has_places : goal.returns-then-not-has_places
 unfolding at
 returns-then-not-has_places c =
     let f = no_room (laid-books c.requires.0) 1 c.has_places.ensures c.if-not-has_places.true in
-    insert-refused c.requires.0 c.requires.1 c.args.n JournalFull c.args.n (ap (at c.args.n) (put_full _ _ _ _ _ _ c.in_default.ensures f)) _ c.new.ensures.0
+    insert-refused c.requires.0 c.requires.1 c.args.n JournalFull c.args.n (ap (at c.args.n) (put_full _ _ _ _ _ _ c.in_default.ensures f)) _ c.new.ensures
 
 pub note_new-requires : goal.note_new-requires
 note_new-requires c =

@@ -31,7 +31,7 @@ pub returns-then-lacks_places : goal.returns-then-lacks_places
 returns-then-lacks_places c =
     let n = its-name (laid-books c.requires.0).store _ c.requires.1.known c.table_record.ensures c.read_name-name.ensures.0 in
     other-lacks c.requires.0 c.requires.1 (meaning c.args.old) (asked-for c.requires.0 c.requires.1 (meaning c.args.old) n c.requires.3 c.in_default.ensures.0)
-    (sym (one_key c.requires.0 c.requires.1 (meaning c.args.old) c.requires.3 c.if-lacks_places.ensures)) c.args.n _ c.new.ensures.0
+    (sym (one_key c.requires.0 c.requires.1 (meaning c.args.old) c.requires.3 c.if-lacks_places.ensures)) c.args.n _ c.new.ensures
 
 pub remove_key-gone-requires : goal.remove_key-gone-requires
 remove_key-gone-requires c =
