@@ -7,6 +7,6 @@ use Rattle.laid.specs.Row.{in_flight}
 use Rattle.mapping.proofs.Mapping.{Filling}
 use Rattle.mapping.proofs.executor.fill.Given as goal
 
--- the row holds the first j columns' values, and the rest of it follows
+-- the row holds the first j columns' values, as many as its count says, and the rest of it follows
 abbrev pub invariant-loop-j : goal.invariant-loop-j
 invariant-loop-j l = Filling (given (map_of l.rec l.m) (values_of l.values)) (columns_of l.p l.table) (in_flight l.row) l.j × (l.row.count ≡ length (in_flight l.row))
