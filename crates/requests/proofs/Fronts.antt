@@ -9,12 +9,14 @@ use lib.Dec.{eqb}
 use lib.ListN.{length, get_or, take, drop, set, length-append, length-drop, length-set, take-append-drop}
 use lib.Seq.{length-take-le, take_all, take_at, drop_at, drop-drop, drop-cons, set_at, drop-length}
 use borrow.Rule.Slice.PartMut.{put_mid}
+use Rattle.values.specs.Meaning.{text_bytes, meaning}
+use Rattle.values.specs.declared.value.Value.TheVariants as D
 use Rattle.forms.specs.Print.{decimal, Front}
 use Rattle.rules.specs.declared.answer.Refused.{Refused}
 use Rattle.rules.specs.declared.answer.Refusal.{Refusal}
 use Rattle.rules.specs.declared.answer.Refusal.TheVariants as V
-use Rattle.rules.specs.Refusal.{number_of, refusal_of}
-use Rattle.rules.specs.Request.{Reply, told}
+use Rattle.rules.specs.Refusal.{RecordBroken, number_of, refusal_of}
+use Rattle.rules.specs.Request.{Reply, no, told}
 use Rattle.rules.specs.Step.{is_accepted}
 use Rattle.requests.specs.Lines.{space, newline, answer_line}
 
@@ -148,6 +150,15 @@ pub record Tells (f : Refused) : Type 0 where
 
 pub tells : (f : Refused) → Tells f
 tells f = record { refused = numbered f.kind; code = refl; at = refl; count = refl }
+
+-- a broken record is refused so, and its line
+pub broken-refusal : Refused
+broken-refusal =
+    record { kind = V.RecordBroken; at = 0; gone = false; carried = record { table = record { a = 0; b = 0; c = 0; len = 0 }; column = 0; key = D.Null } }
+
+pub broken-told : told broken-refusal ≡ no RecordBroken 0
+unfolding broken-refusal text_bytes meaning
+broken-told = refl
 
 -- the word w, which is v, and what was written behind it
 module _ (w v out : List ℕ) (e : w ≡ v) (ev : 2 ≡ length v) (l : 2 ≤ length out) where

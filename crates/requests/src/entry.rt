@@ -134,10 +134,7 @@ pub fn run(
                 taken = end;
             }
             Framed::Skip(n) => {
-                written += line::put_answer(
-                    &mut out[written..],
-                    Err(Refused::new(Refusal::RecordBroken, 0)),
-                );
+                written += line::put_broken(&mut out[written..]);
                 let left = input.len() - taken;
                 if left < n {
                     skip = n - left;
@@ -148,10 +145,7 @@ pub fn run(
             }
             Framed::More => break Halt::Waiting,
             Framed::Cut => {
-                written += line::put_answer(
-                    &mut out[written..],
-                    Err(Refused::new(Refusal::RecordBroken, 0)),
-                );
+                written += line::put_broken(&mut out[written..]);
                 taken = input.len();
             }
             Framed::Done => break Halt::Stopped,

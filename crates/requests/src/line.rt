@@ -3,7 +3,8 @@ ghost use Rattle.std.specs.Prelude.{◌≡◌, [], ◌∷◌, ◌++◌, ◌+◌,
 ghost use Rattle.forms.specs.Print.{decimal, Front};
 ghost use Rattle.values.specs.Meaning.{held, ProperCell};
 ghost use Rattle.rules.specs.Layout.{parse};
-ghost use Rattle.rules.specs.Request.{said};
+ghost use Rattle.rules.specs.Refusal.{RecordBroken};
+ghost use Rattle.rules.specs.Request.{said, no};
 ghost use Rattle.laid.specs.Store.{LaidStore};
 ghost use Rattle.laid.specs.Row.{row_in};
 ghost use Rattle.requests.specs.Lines.{space, newline, row_line, row_most, answer_line, answer_most};
@@ -57,6 +58,16 @@ pub fn put_answer(out: &mut [u8], a: Answer) -> usize
             put_last(out, m, u64::from(f.gone))
         }
     }
+}
+
+// The line of a broken record: `no 1 0 0`, which is known without its parts.
+pub fn put_broken(out: &mut [u8]) -> usize
+    requires { answer_most ≤ length out.old }
+    ensures { Front (answer_line (no RecordBroken 0)) out.old out.new result }
+{
+    let text = b"no 1 0 0\n";
+    out[..text.len()].copy_from_slice(text);
+    text.len()
 }
 
 // A line of one value.

@@ -4,6 +4,7 @@ use Prim.Native.Nat.{◌+◌}
 use borrow.Author.Tests.{not-true, not-false}
 use Rattle.std.specs.declared.result.Result.TheVariants.{Err}
 use Rattle.requests.proofs.RunSteps.{run-start, pass-start, more-none, done_none, ran-full, ran-waiting, ran-stopped, whole-moves, part-room, On, on-whole, on-past, on-skip, on-cut, run-stays, stays-full, whole-turn}
+use Rattle.requests.proofs.Fronts.{broken-refusal, broken-told}
 use Rattle.requests.proofs.entry.run.Goals as goal
 use Rattle.requests.proofs.entry.run.Goals.{Joined-next_record, Then-not-put, in-Whole+else-not-put, in-Skip+then-left-n, in-Skip+else-left-n, in-Cut}
 
@@ -57,14 +58,14 @@ on c =
           let x = w.answer_record-put in
           rw (w.s-is, w.j-is, w.out-is, w.taken-is, w.skip-is, w.written-is) (on-whole g t r e w.in-Whole.is (λ i. (c.type_inv.input i).fits) x.ensures x.auto.s x.auto.j (not-false _ w.if-not-put.false))
       | in-Skip+then-left-n w ↦
-          let x = w.put_answer-written in
-          rw (w.s-is, w.j-is, w.out-is, w.taken-is, w.skip-is, w.written-is) (on-past g t r e (Err w.new.result) w.new.ensures x.ensures.0 x.auto.out w.in-Skip.is w.if-left-n.true)
+          let x = w.put_broken-written in
+          rw (w.s-is, w.j-is, w.out-is, w.taken-is, w.skip-is, w.written-is) (on-past g t r e (Err broken-refusal) broken-told (rw broken-told x.ensures) x.auto.out w.in-Skip.is w.if-left-n.true)
       | in-Skip+else-left-n w ↦
-          let x = w.put_answer-written in
-          rw (w.s-is, w.j-is, w.out-is, w.taken-is, w.skip-is, w.written-is) (on-skip g t r e (Err w.new.result) w.new.ensures x.ensures.0 x.auto.out w.in-Skip.is w.if-left-n.false)
+          let x = w.put_broken-written in
+          rw (w.s-is, w.j-is, w.out-is, w.taken-is, w.skip-is, w.written-is) (on-skip g t r e (Err broken-refusal) broken-told (rw broken-told x.ensures) x.auto.out w.in-Skip.is w.if-left-n.false)
       | in-Cut w ↦
-          let x = w.put_answer-written-in-Cut in
-          rw (w.s-is, w.j-is, w.out-is, w.taken-is, w.skip-is, w.written-is) (on-cut g t r e (Err w.new-in-Cut.result) w.new-in-Cut.ensures x.ensures.0 x.auto.out w.in-Cut.is)
+          let x = w.put_broken-written-in-Cut in
+          rw (w.s-is, w.j-is, w.out-is, w.taken-is, w.skip-is, w.written-is) (on-cut g t r e (Err broken-refusal) broken-told (rw broken-told x.ensures) x.auto.out w.in-Cut.is)
     ]
 
 pub overflow_add-count : goal.overflow_add-count
