@@ -151,7 +151,7 @@ pub record Tells (f : Refused) : Type 0 where
 pub tells : (f : Refused) → Tells f
 tells f = record { refused = numbered f.kind; code = refl; at = refl; count = refl }
 
--- a broken record is refused so, and its line
+-- the refusal that a broken record gets
 pub broken-refusal : Refused
 broken-refusal =
     record { kind = V.RecordBroken; at = 0; gone = false; carried = record { table = record { a = 0; b = 0; c = 0; len = 0 }; column = 0; key = D.Null } }
